@@ -1,3 +1,4 @@
+pub mod Words
 pub mod Leases
 pub mod Book
 pub mod Chains

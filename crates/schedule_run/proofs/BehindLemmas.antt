@@ -3,16 +3,13 @@ use Rattle.std.proofs.Common.{◌≡◌, ◌+◌, ℕ, Bool, List, length, Some,
 use Rattle.client_work.specs.Session.{Acting, closed_session}
 use Rattle.client_work.specs.declared.answer.Answer.{Answer}
 use Rattle.client_work.specs.declared.answer.Answer.TheVariants as answer
-use Rattle.cloud_trait.specs.Seen.{Seen}
-use Rattle.cloud_trait.specs.State.{CloudState}
-use Rattle.db_base.specs.declared.trouble.Trouble.{Trouble}
+use Rattle.cloud_facts.specs.Words.{Trouble, Entry, CloudState, Seen}
 use Rattle.db_base.specs.declared.trouble.Trouble.TheVariants as trouble
 use Rattle.event_text.specs.declared.event.Event.{Event}
 use Rattle.event_text.specs.declared.event.Event.TheVariants as event
 use Rattle.replay_meaning.specs.Standing.{Line, Posture, standing}
 use Rattle.reply_text.specs.declared.reply.Reply.{Reply}
 use Rattle.reply_text.specs.declared.reply.Reply.TheVariants as reply
-use Rattle.report_types.specs.declared.entry.Entry.{Entry}
 use Rattle.session_facts.proofs.Lines.Books.{was_left, empty_left}
 use Rattle.session_facts.proofs.Lines.Start.{closed_at}
 use Rattle.session_facts.specs.Lines.Acknowledged.{IsKeptReply}

@@ -1,10 +1,9 @@
 -- A load ends well where nothing goes wrong.
 use Rattle.std.proofs.Common.{◌≡◌, ◌⊎◌, ◌<◌, ℕ, List, Option, Some, None, Result, Ok, Err, refl, ap, ◌∙◌, inl, inr, arith}
-use Rattle.cloud_trait.specs.Seen.{Seen}
-use Rattle.cloud_trait.specs.State.{CloudState, IsEmptyCloud, newest}
+use Rattle.cloud_facts.specs.Words.{ObjName, CloudState, newest, Seen}
+use Rattle.cloud_trait.specs.State.{IsEmptyCloud}
 use Rattle.command_words.specs.declared.shape.Shape.{Shape}
 use Rattle.command_words.specs.declared.shape.Shape.TheVariants.{Replay, Gen, Shell, Settle, Dump, Load}
-use Rattle.db_base.specs.declared.names.ObjName.{ObjName}
 use Rattle.db_io.specs.Content.{Told}
 use Rattle.db_io.specs.Writes.{Written}
 use Rattle.dump_text.specs.declared.dump.DumpedTree.{DumpedTree}

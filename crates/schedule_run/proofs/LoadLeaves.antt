@@ -2,10 +2,9 @@
 use Rattle.std.proofs.Common.{◌≡◌, ◌≤◌, ◌<◌, ◌+◌, ◌⊎◌, inl, inr, ℕ, zero, suc, List, [], ◌∷◌, ◌++◌, length, take, drop, Option, Some, None, Result, Ok, Err, refl, sym, ap, subst, ◌∙◌, append_assoc, arith, length-append, Bool, true, false}
 use Rattle.std.specs.Prelude.{slice_get, IfOk}
 use Rattle.cloud_trait.specs.Traced.{IsTraced}
-use Rattle.cloud_trait.specs.Seen.{Seen}
-use Rattle.cloud_trait.specs.State.{CloudState, IsEmptyCloud}
+use Rattle.cloud_facts.specs.Words.{CommitAnswer, CloudState, Seen}
+use Rattle.cloud_trait.specs.State.{IsEmptyCloud}
 use Rattle.cloud_trait.specs.Upto.{upto}
-use Rattle.db_base.specs.declared.trouble.CommitAnswer.{CommitAnswer}
 use Rattle.db_base.specs.declared.trouble.CommitAnswer.TheVariants.{Committed, NotCommitted, InDoubt, CommittedOpen}
 use Rattle.dump_take.proofs.OneDump.{have_dumped}
 use Rattle.dump_take.specs.Taken.{AreDumped}

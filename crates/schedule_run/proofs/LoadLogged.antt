@@ -6,8 +6,8 @@ use Rattle.std.proofs.lemmas.Option.{slice_get_within}
 use Rattle.client_work.specs.Session.{Acting, closed_session}
 use Rattle.client_work.specs.declared.work.Work.{Work}
 use Rattle.cloud_trait.specs.Growth.{BeginsWith}
-use Rattle.cloud_trait.specs.Seen.{Seen}
-use Rattle.cloud_trait.specs.State.{CloudState, IsEmptyCloud}
+use Rattle.cloud_facts.specs.Words.{Entry, CloudState, Seen}
+use Rattle.cloud_trait.specs.State.{IsEmptyCloud}
 use Rattle.cloud_trait.specs.Traced.{IsTraced}
 use Rattle.cloud_trait.specs.Upto.{IsUpto}
 use Rattle.db_base.specs.declared.trouble.CommitAnswer.TheVariants.{Committed}
@@ -26,7 +26,6 @@ use Rattle.schedule_run.specs.Loads.Loaded.{AreLogged}
 use Rattle.load_plan.specs.Events.{Placed, records_of, parts, parts_of, transactions, insert_of, checkpoint_at, checkpoints_from, checkpoints_of, part_events, later_events, commit_events, load_events}
 use Rattle.replay_meaning.specs.Committed.{committed}
 use Rattle.replay_meaning.specs.Standing.{Line, Posture, Working, Committing, Standing, session_of, standing}
-use Rattle.report_types.specs.declared.entry.Entry.{Entry}
 use Rattle.reply_text.specs.declared.reply.Reply.{Reply}
 use Rattle.reply_text.specs.declared.reply.Reply.TheVariants as reply
 use Rattle.session_facts.proofs.Lines.More.{line_of}

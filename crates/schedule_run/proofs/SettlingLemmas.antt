@@ -2,13 +2,12 @@
 use Rattle.std.proofs.Common.{◌≡◌, ◌≤◌, ◌-◌, ◌+◌, ◌∙◌, ℕ, List, [], ◌∷◌, take, Some, Result, Bool, true, false, Ok, Err, if◌then◌else◌, refl, sym, ap, subst, arith}
 use Rattle.std.specs.Prelude.{slice_get}
 use Rattle.std.proofs.lemmas.List.{append_cancel_left}
-use Rattle.cloud_trait.specs.Seen.{Seen}
-use Rattle.cloud_trait.specs.State.{CloudState, version_at}
+use Rattle.cloud_facts.specs.Words.{Head, CloudState, Seen}
+use Rattle.cloud_trait.specs.State.{version_at}
 use Rattle.cloud_trait.specs.declared.state.Landing.{Landing}
 use Rattle.db_base.specs.declared.names.ObjName.TheVariants as object
 use Rattle.db_io.specs.Writes.{Written}
 use Rattle.event_text.specs.declared.event.Event.TheVariants.{Settle}
-use Rattle.head_codec.specs.declared.head.Head.{Head}
 use Rattle.head_codec.specs.Spelling.{head_of}
 use Rattle.db_io.specs.declared.output.OutputFault.{OutputFault}
 use Rattle.db_io.specs.declared.output.OutputFault.TheVariants as output

@@ -6,10 +6,8 @@ use Rattle.std.proofs.lemmas.Option.{slice_get_within, slice_get-get_or}
 use Rattle.std.proofs.lemmas.Bool.{cases_lt}
 use Rattle.cloud_trait.proofs.StateLemmas.{slice_get-push}
 use Rattle.client_work.specs.declared.answer.Answer.{Answer}
-use Rattle.cloud_trait.specs.Caller.{Caller}
-use Rattle.cloud_trait.specs.Seen.{Seen}
-use Rattle.cloud_trait.specs.State.{CloudState, Counts}
-use Rattle.cloud_trait.specs.declared.turn.Turn.{Turn}
+use Rattle.cloud_facts.specs.Words.{Turn, CloudState, Caller, Seen}
+use Rattle.cloud_trait.specs.State.{Counts}
 use Rattle.db_base.specs.declared.wish.Wish.{Wish}
 use Rattle.event_text.specs.declared.event.Event.{Event}
 use Rattle.event_text.specs.declared.event.Event.TheVariants as event

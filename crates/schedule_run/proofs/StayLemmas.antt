@@ -11,24 +11,19 @@ use Rattle.client_work.specs.Session.{StepsAt}
 use Rattle.client_work.specs.declared.answer.Answer.{Answer}
 use Rattle.client_work.specs.declared.work.Work.{Work}
 use Rattle.cloud_trait.specs.Bench.{Waits}
-use Rattle.cloud_trait.specs.Caller.{Caller}
+use Rattle.cloud_facts.specs.Words.{ObjName, QueueName, Entry, Turn, Version, CloudState, Caller, Seen}
 use Rattle.cloud_trait.specs.Growth.{BeginsWith}
-use Rattle.cloud_trait.specs.Seen.{Seen}
-use Rattle.cloud_trait.specs.State.{CloudState, version_at}
+use Rattle.cloud_trait.specs.State.{version_at}
 use Rattle.cloud_trait.specs.Upto.{AgreeUpto, IsUpto, upto}
 use Rattle.cloud_trait.specs.declared.state.Landing.{Landing}
 use Rattle.cloud_trait.specs.declared.state.Site.{Site}
 use Rattle.cloud_trait.specs.declared.state.Site.TheVariants.{Object, Queue}
-use Rattle.cloud_trait.specs.declared.state.Version.{Version}
-use Rattle.cloud_trait.specs.declared.turn.Turn.{Turn}
 use Rattle.cloud_trait.proofs.RowLemmas.{leaves_agree, leaves_grown}
 use Rattle.cloud_trait.proofs.UptoLemmas.{agree_itself, agree_trans, versions_upto-all, trace_upto-all}
-use Rattle.db_base.specs.declared.names.ObjName.{ObjName}
 use Rattle.db_base.specs.declared.names.ObjName.TheVariants as object
 use Rattle.db_base.specs.declared.wish.Wish.{Wish}
 use Rattle.replay_meaning.specs.Committed.{Versions, changes_of_row, entries_of_bytes, site_entries, row_entries, committed_by, committed}
 use Rattle.replay_meaning.specs.Standing.{Line, Posture, Working, Committing}
-use Rattle.report_types.specs.declared.entry.Entry.{Entry}
 use Rattle.reply_text.specs.declared.reply.Reply.{Reply}
 use Rattle.reply_text.specs.declared.reply.Reply.TheVariants as reply
 use Rattle.txn_buffer.specs.Noted.{Noted}
@@ -38,7 +33,6 @@ use Rattle.session_facts.specs.Lines.Facts.{IsPlaced, IsPlacedAt}
 use Rattle.session_facts.proofs.Lines.Acknowledged.{kept_on}
 use Rattle.session_facts.proofs.Lines.Committed.{committed_same, committed_line, slice_get-append_left}
 use Rattle.session_facts.proofs.Lines.Outcome.{made_call}
-use Rattle.db_base.specs.declared.names.QueueName.{QueueName}
 use Rattle.ckpt_policy.specs.declared.role.Role.{Role}
 use Rattle.world_core.specs.World.{World}
 use Rattle.world_core.specs.declared.asked.Asked.{Asked}

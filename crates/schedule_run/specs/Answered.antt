@@ -1,11 +1,10 @@
 -- Lines that a world handles, one behind another.
 use Rattle.std.specs.Prelude.{ℕ, ◌≡◌, ◌+◌, ◌≤◌, ◌⊎◌, Bool, List, [], ◌∷◌, ◌++◌, map, length, replicate, take, slice_get, Some, Ok, Err}
 use Rattle.client_work.specs.Session.{closed_session}
-use Rattle.cloud_trait.specs.State.{CloudState, IsEmptyCloud}
-use Rattle.cloud_trait.specs.Seen.{Seen}
+use Rattle.cloud_facts.specs.Words.{IsTree, Entry, CloudState, Seen}
+use Rattle.cloud_trait.specs.State.{IsEmptyCloud}
 use Rattle.cloud_trait.specs.Traced.{IsTraced}
 use Rattle.cloud_trait.specs.Upto.{upto}
-use Rattle.db_base.specs.Ids.{IsTree}
 use Rattle.event_text.specs.declared.event.Event.{Event}
 use Rattle.event_text.specs.declared.event.Event.TheVariants as event
 use Rattle.reply_text.specs.declared.reply.Reply.{Reply}
@@ -14,7 +13,6 @@ use Rattle.replay_meaning.specs.Committed.{committed}
 use Rattle.replay_meaning.specs.Standing.{Line, session_of, standing}
 use Rattle.replay_meaning.specs.Kinds.{KeepsKinds}
 use Rattle.replay_meaning.specs.Right.{ReportIsRight}
-use Rattle.report_types.specs.declared.entry.Entry.{Entry}
 use Rattle.report_types.specs.declared.report.Report.{Report}
 use Rattle.session_facts.specs.Lines.Acknowledged.{IsKeptReply}
 use Rattle.session_facts.specs.Rows.Added.{AddsTo}

@@ -1,8 +1,6 @@
 -- Service calls that a schedule asks no wish for.
 use Rattle.std.specs.Prelude.{ℕ, ◌≡◌, ◌⊎◌, Some}
-use Rattle.cloud_trait.specs.Caller.{Caller}
-use Rattle.cloud_trait.specs.Seen.{Seen}
-use Rattle.cloud_trait.specs.State.{CloudState}
+use Rattle.cloud_facts.specs.Words.{CloudState, Caller, Seen}
 use Rattle.db_base.specs.declared.wish.Wish.TheVariants.{Plain}
 
 -- session 1, or the settler

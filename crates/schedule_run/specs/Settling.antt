@@ -1,11 +1,9 @@
 -- What a settling writes and leaves.
 use Rattle.std.specs.Prelude.{ℕ, ◌≡◌, Bool, true, false, if◌then◌else◌, List, [], ◌∷◌, ◌++◌, slice_get, Some, Result, Ok, Err}
-use Rattle.cloud_trait.specs.Seen.{Seen}
-use Rattle.cloud_trait.specs.State.{CloudState}
+use Rattle.cloud_facts.specs.Words.{Head, CloudState, Seen}
 use Rattle.cloud_trait.specs.declared.state.Landing.{Landing}
 use Rattle.db_io.specs.Writes.{AddsOne, AddsPart}
 use Rattle.event_text.specs.declared.event.Event.TheVariants.{Settle}
-use Rattle.head_codec.specs.declared.head.Head.{Head}
 use Rattle.db_io.specs.declared.output.OutputFault.{OutputFault}
 use Rattle.db_io.specs.declared.output.OutputFault.TheVariants as output
 use Rattle.replay_meaning.specs.Kinds.{LandsOpen}

@@ -9,14 +9,9 @@ use Rattle.event_text.specs.declared.event.Event.{Event}
 use Rattle.event_text.specs.declared.event.Event.TheVariants as event
 use Rattle.reply_text.specs.declared.reply.Reply.{Reply}
 use Rattle.reply_text.specs.declared.reply.Reply.TheVariants as reply
-use Rattle.cloud_trait.specs.Caller.{Caller}
-use Rattle.cloud_trait.specs.State.{CloudState}
-use Rattle.cloud_trait.specs.Seen.{Seen}
-use Rattle.cloud_trait.specs.declared.turn.Turn.{Turn}
-use Rattle.cloud_trait.specs.declared.turn.Turn.TheVariants.{More, Ended, Stopped}
+use Rattle.cloud_facts.specs.Words.{Turn, More, Ended, Stopped, CloudState, Caller, Seen, at}
 use Rattle.client_work.specs.declared.answer.Answer.{Answer}
 use Rattle.client_work.specs.Session.{Acting, closed_session, StepsSession, noted_behind}
-use Rattle.cloud_facts.specs.Book.Tally.{at}
 use Rattle.cloud_facts.proofs.Book.Names.{at_same, at_other}
 use Rattle.session_facts.specs.Sessions.Knows.{Sessions}
 use Rattle.replay_meaning.specs.Standing.{Line, Standing, standing, after_line, after_own, session_of, steps}

@@ -6,13 +6,8 @@ use Rattle.client_work.specs.declared.answer.Begun.TheVariants.{Working}
 use Rattle.client_work.specs.declared.op.Op.TheVariants as op
 use Rattle.client_work.specs.Session.{Acting}
 use Rattle.cloud_facts.proofs.Book.Names.{at_same}
-use Rattle.cloud_trait.specs.Caller.{Caller}
-use Rattle.cloud_trait.specs.Claim.{Claim}
-use Rattle.cloud_trait.specs.Seen.{Seen}
-use Rattle.cloud_trait.specs.State.{CloudState}
+use Rattle.cloud_facts.specs.Words.{QueueName, Turn, CloudState, Caller, Seen, Claim}
 use Rattle.cloud_trait.specs.Weather.{Leaves}
-use Rattle.cloud_trait.specs.declared.turn.Turn.{Turn}
-use Rattle.db_base.specs.declared.names.QueueName.{QueueName}
 use Rattle.db_base.specs.declared.refusal.Refused.{Refused}
 use Rattle.db_base.specs.declared.wish.Wish.{Wish}
 use Rattle.event_text.specs.declared.event.Event.{Event}

@@ -1,12 +1,12 @@
 -- Lines that begin an operation, note a change or drop what was noted.
 use Rattle.std.proofs.Common.{◌≡◌, ◌≤◌, ℕ, List, [], ◌∷◌, ◌++◌, length, false, Some, None, Result, Ok, Err, unwrap_or, refl, sym, ap, subst, ◌∙◌, ◌⊎◌, inl, inr, ◌≢◌}
 use Rattle.std.proofs.lemmas.Bool.{cases_eq}
-use Rattle.db_base.specs.Ids.{IsClient, IsTree, IsPage}
+use Rattle.cloud_facts.specs.Words.{IsClient, IsTree, Trouble, Turn, More, Ended, Stopped, CloudState, Seen, Goes, Ends, at}
+use Rattle.db_base.specs.Ids.{IsPage}
 use Rattle.db_base.specs.Change.{IsChange}
 use Rattle.db_base.specs.declared.refusal.Refusal.{Refusal}
 use Rattle.db_base.specs.declared.refusal.Refused.{Refused}
 use Rattle.db_base.specs.declared.refusal.Refused.TheVariants as refused
-use Rattle.db_base.specs.declared.trouble.Trouble.{Trouble}
 use Rattle.db_base.specs.declared.trouble.Trouble.TheVariants as trouble
 use Rattle.db_base.specs.declared.trouble.CommitAnswer.TheVariants.{Committed, NotCommitted}
 use Rattle.event_text.specs.declared.event.Event.{Event}
@@ -14,9 +14,6 @@ use Rattle.event_text.specs.declared.event.Event.TheVariants as event
 use Rattle.reply_text.specs.declared.reply.Reply.{Reply}
 use Rattle.reply_text.specs.declared.reply.Reply.TheVariants as reply
 use Rattle.txn_buffer.specs.Noted.{Noted}
-use Rattle.cloud_trait.specs.Machine.{Goes, Ends}
-use Rattle.cloud_trait.specs.State.{CloudState}
-use Rattle.cloud_trait.specs.Seen.{Seen}
 use Rattle.recover_run.specs.declared.home.Home.{Home}
 use Rattle.client_work.specs.declared.answer.Answer.{Answer}
 use Rattle.client_work.specs.declared.answer.Answer.TheVariants as answer
@@ -33,8 +30,6 @@ use Rattle.session_facts.specs.Sessions.Knows.{Sessions, SessionsStand, IsRightO
 use Rattle.session_facts.proofs.Sessions.Begins.{begins_keeps}
 use Rattle.session_facts.proofs.Sessions.Laws.{buffer_keeps, same_sessions}
 use Rattle.page_cache.specs.Cache.{Cache}
-use Rattle.cloud_trait.specs.declared.turn.Turn.{Turn}
-use Rattle.cloud_trait.specs.declared.turn.Turn.TheVariants.{More, Ended, Stopped}
 use Rattle.range_scan.specs.Scan.{Scan, new_scan, scan_ready, moved_on}
 use Rattle.tree_walk.specs.Moves.{Moves}
 use Rattle.tree_walk.specs.Walk.{new_walk}
@@ -42,7 +37,6 @@ use Rattle.attr_index.specs.Look.{Query}
 use Rattle.commit_run.specs.Run.{home_of}
 use Rattle.session_facts.specs.Machines.Commits.Knows.{MayCommit}
 use Rattle.session_facts.proofs.Machines.Commits.Noted.{may_none}
-use Rattle.cloud_facts.specs.Book.Tally.{at}
 use Rattle.cloud_facts.proofs.Book.Names.{at_same, at_other}
 use Rattle.replay_meaning.specs.Standing.{Line, Standing, Working as WorkingOn, Committing as CommittingAll, Reading as ReadingKey, Scanning as ScanningRange, LookingUp, standing, after_own, joins}
 use Rattle.session_facts.specs.Lines.Facts.{session_at, ActsAs, WorksAs}

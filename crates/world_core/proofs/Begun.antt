@@ -1,15 +1,10 @@
 -- Why an operation that was answered at its begin came to that.
 use Rattle.std.proofs.Common.{◌≡◌, ◌≢◌, ℕ, [], List, inl, inr, false, refl, ap, subst, Option, Some, Result, Ok, Err}
 use Rattle.db_base.specs.declared.refusal.Refused.{Refused}
-use Rattle.db_base.specs.declared.trouble.CommitAnswer.{CommitAnswer}
+use Rattle.cloud_facts.specs.Words.{Trouble, CommitAnswer, Turn, More, Ended, Stopped, Seen, Next, Goes, Ends, Stops}
 use Rattle.db_base.specs.declared.trouble.CommitAnswer.TheVariants.{Committed}
-use Rattle.db_base.specs.declared.trouble.Trouble.{Trouble}
 use Rattle.db_base.specs.declared.trouble.Trouble.TheVariants as trouble
 use Rattle.txn_buffer.specs.Noted.{Noted}
-use Rattle.cloud_trait.specs.Seen.{Seen}
-use Rattle.cloud_trait.specs.Machine.{Next, Goes, Ends, Stops}
-use Rattle.cloud_trait.specs.declared.turn.Turn.{Turn}
-use Rattle.cloud_trait.specs.declared.turn.Turn.TheVariants.{More, Ended, Stopped}
 use Rattle.page_cache.specs.Cache.{Cache}
 use Rattle.tree_walk.specs.Causes.{LinkShows}
 use Rattle.tree_walk.specs.Walk.{Walk, new_walk, walk_ready}

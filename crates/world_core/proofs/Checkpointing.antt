@@ -14,19 +14,12 @@ use Rattle.client_work.specs.declared.answer.Begun.TheVariants.{Working}
 use Rattle.client_work.specs.declared.work.Work.{Work}
 use Rattle.client_work.specs.declared.work.Work.TheVariants.{Idle, Paging, Folding}
 use Rattle.client_work.specs.Session.{Acting, Begins, StepsAt, StepsSession, ask_of_work, open_client, rule_of}
-use Rattle.cloud_trait.specs.State.{newest}
+use Rattle.cloud_facts.specs.Words.{Trouble, QueueName, Turn, Ended, newest, Caller, Seen, Ask, PutHeld}
 use Rattle.ckpt_policy.specs.Ledger.{Account}
-use Rattle.cloud_trait.specs.Ask.{Ask, PutHeld}
-use Rattle.cloud_trait.specs.Caller.{Caller}
-use Rattle.cloud_trait.specs.Seen.{Seen}
 use Rattle.cloud_trait.specs.declared.turn.CkptAnswer.{CkptAnswer}
-use Rattle.cloud_trait.specs.declared.turn.Turn.{Turn}
-use Rattle.cloud_trait.specs.declared.turn.Turn.TheVariants.{Ended}
-use Rattle.db_base.specs.declared.names.QueueName.{QueueName}
 use Rattle.db_base.specs.declared.names.QueueName.TheVariants.{Atomic, TreePu, PagePu}
 use Rattle.db_base.specs.declared.refusal.Refused.{Refused}
 use Rattle.db_base.specs.declared.refusal.Refused.TheVariants as refused
-use Rattle.db_base.specs.declared.trouble.Trouble.{Trouble}
 use Rattle.recover_run.specs.declared.home.Home.{Home}
 use Rattle.session_facts.specs.Lines.Facts.{session_at}
 use Rattle.session_facts.specs.Sessions.Knows.{Sessions}

@@ -14,19 +14,12 @@ use Rattle.client_work.specs.declared.shown.Shown.{Shown}
 use Rattle.client_work.specs.declared.work.Work.{Work}
 use Rattle.client_work.specs.declared.work.Work.TheVariants.{Idle, Broken, Committing, Reading, Scanning, Looking, Closing, Renewing}
 use Rattle.cloud_facts.proofs.Book.Names.{at_same, at_other}
-use Rattle.cloud_facts.specs.Book.Book.{Book}
-use Rattle.cloud_facts.specs.Book.Tally.{at}
-use Rattle.cloud_trait.specs.Caller.{Caller}
-use Rattle.cloud_trait.specs.Seen.{Seen}
+use Rattle.cloud_facts.specs.Words.{Trouble, QueueName, Entry, Turn, More, Ended, Stopped, CloudState, Caller, Seen, Book, at}
 use Rattle.cloud_trait.proofs.EffectLemmas.{begins_itself, grown_itself}
-use Rattle.cloud_trait.specs.State.{CloudState}
 use Rattle.cloud_trait.specs.Upto.{posts_of}
-use Rattle.cloud_trait.specs.declared.turn.Turn.TheVariants.{More, Ended, Stopped}
-use Rattle.cloud_trait.specs.declared.turn.Turn.{Turn}
 use Rattle.db_base.specs.declared.refusal.Refusal.{Refusal}
 use Rattle.db_base.specs.declared.refusal.Refused.{Refused}
 use Rattle.db_base.specs.declared.refusal.Refused.TheVariants as refused
-use Rattle.db_base.specs.declared.trouble.Trouble.{Trouble}
 use Rattle.db_base.specs.declared.trouble.Trouble.TheVariants as trouble
 use Rattle.db_base.specs.declared.wish.Wish.{Wish}
 use Rattle.db_base.specs.declared.wish.Wish.TheVariants.{Plain}
@@ -37,7 +30,6 @@ use Rattle.recover_run.specs.declared.home.Home.{Home}
 use Rattle.replay_meaning.specs.Standing.{Line, session_of}
 use Rattle.reply_text.specs.declared.reply.Reply.{Reply}
 use Rattle.reply_text.specs.declared.reply.Reply.TheVariants as reply
-use Rattle.report_types.specs.declared.entry.Entry.{Entry}
 use Rattle.session_facts.proofs.Lines.More.{line_of}
 use Rattle.session_facts.proofs.Sessions.CheckpointCalls.{IsOther, LosesNothing, begun_counts, page_begun, counts_beside, other_counts, session_few, session_names, more_counts, end_counts}
 use Rattle.session_facts.proofs.Lines.Settler.{errand_row}
@@ -50,7 +42,6 @@ use Rattle.session_facts.specs.Machines.TreeCheckpoints.Few.{next_page}
 use Rattle.session_facts.specs.Sessions.Knows.{Sessions, SessionsStand}
 use Rattle.session_facts.specs.Machines.TreeCheckpoints.Named.{NamesPieces}
 use Rattle.txn_buffer.specs.Noted.{Noted}
-use Rattle.db_base.specs.declared.names.QueueName.{QueueName}
 use Rattle.ckpt_policy.specs.declared.role.Role.{Role}
 use Rattle.world_core.proofs.Workers.{IsInside, HoldsWithin, IsIdle, IsBetween, holds_begun, holds_went, holds_works, open_rests, within_begun, within_went, within_works, worker, worker_begins, worker_call, worker_own, worker_rows}
 use Rattle.world_core.proofs.Behind.{LinesStand}

@@ -1,13 +1,10 @@
 -- What holds of every step, whatever led to it, holds of each step of a line.
 use Rattle.std.proofs.Common.{inl, inr, ℕ, Bool, true, false, Result, Ok, Err, List}
 use Rattle.client_work.specs.declared.answer.Answer.{Answer}
-use Rattle.cloud_trait.specs.Caller.{Caller}
-use Rattle.cloud_trait.specs.Seen.{Seen}
-use Rattle.cloud_trait.specs.declared.turn.Turn.{Turn}
+use Rattle.cloud_facts.specs.Words.{QueueName, Turn, Caller, Seen}
 use Rattle.db_base.specs.declared.refusal.Refused.{Refused}
 use Rattle.db_base.specs.declared.wish.Wish.{Wish}
 use Rattle.reply_text.specs.declared.reply.Reply.{Reply}
-use Rattle.db_base.specs.declared.names.QueueName.{QueueName}
 use Rattle.session_facts.specs.Lines.Errands.{Errand, settles, sweeps}
 use Rattle.world_core.specs.declared.asked.Asked.{Asked}
 use Rattle.world_core.specs.declared.asked.Asked.TheVariants.{Session, Wait, Report, Settle, Sweep}

@@ -1,13 +1,9 @@
 -- Session 0 begins to go on an errand.
 use Rattle.std.proofs.Common.{◌≡◌, ℕ, List, refl}
-use Rattle.db_base.specs.Ids.{IsTree}
+use Rattle.cloud_facts.specs.Words.{IsTree, Entry, CloudState, Book, at}
 use Rattle.client_work.specs.Session.{closed_session}
-use Rattle.cloud_facts.specs.Book.Book.{Book}
-use Rattle.cloud_facts.specs.Book.Tally.{at}
-use Rattle.cloud_trait.specs.State.{CloudState}
 use Rattle.replay_meaning.specs.Standing.{Standing, after_own}
 use Rattle.reply_text.specs.declared.reply.Reply.{Reply}
-use Rattle.report_types.specs.declared.entry.Entry.{Entry}
 use Rattle.session_facts.proofs.Sessions.Begins.{settling_begins_session, sweeping_begins_session}
 use Rattle.session_facts.specs.Lines.Errands.{Errand, settles, sweeps, event_for, session_for, WorksOn}
 use Rattle.session_facts.specs.Sessions.Knows.{Sessions, SessionsStand}

@@ -1,10 +1,7 @@
 -- Each step of a line explains what it brought.
 use Rattle.std.proofs.Common.{◌≡◌, ℕ, List, Some, Result, sym, subst, ◌∙◌}
 use Rattle.client_work.specs.declared.answer.Answer.{Answer}
-use Rattle.cloud_trait.specs.Caller.{Caller}
-use Rattle.cloud_trait.specs.Seen.{Seen}
-use Rattle.cloud_trait.specs.State.{CloudState}
-use Rattle.cloud_trait.specs.declared.turn.Turn.{Turn}
+use Rattle.cloud_facts.specs.Words.{Turn, CloudState, Caller, Seen}
 use Rattle.db_base.specs.declared.wish.Wish.{Wish}
 use Rattle.event_text.specs.declared.event.Event.{Event}
 use Rattle.replay_meaning.specs.Standing.{Line}

@@ -4,9 +4,7 @@ use Rattle.std.specs.Prelude.{slice_get, slice_set, unwrap_or, is_some}
 use Rattle.std.specs.Option.{option_map}
 use Rattle.std.proofs.lemmas.List.{get_or-set_same, length-set}
 use Rattle.std.proofs.lemmas.Option.{slice_get_within, slice_get-get_or}
-use Rattle.cloud_trait.specs.Caller.{Caller}
-use Rattle.cloud_trait.specs.Seen.{Seen}
-use Rattle.cloud_trait.specs.declared.turn.Turn.TheVariants.{More, Ended, Stopped}
+use Rattle.cloud_facts.specs.Words.{ObjName, Turn, More, Ended, Stopped, Caller, Seen, Ask}
 use Rattle.page_cache.specs.Cache.{Cache}
 use Rattle.recover_run.specs.declared.home.Home.{Home}
 use Rattle.txn_buffer.specs.Noted.{Noted}
@@ -17,14 +15,11 @@ use Rattle.client_work.specs.declared.listing.Listing.{Listing}
 use Rattle.client_work.specs.declared.shown.Shown.{Shown}
 use Rattle.client_work.specs.Session.{Acting, closed_session, Follows, StepsAt, ask_of_work, calls_left, acting_of}
 use Rattle.client_work.proofs.End.{session_less}
-use Rattle.cloud_trait.specs.Ask.{Ask}
 use Rattle.world_core.specs.declared.put.Put.{Put}
 use Rattle.world_core.specs.World.{World}
 use Rattle.world_core.specs.Put.{put_of}
-use Rattle.db_base.specs.declared.names.ObjName.{ObjName}
 use Rattle.history.specs.Audited.{Audited}
 use Rattle.db_base.specs.declared.wish.Wish.TheVariants.{Plain}
-use Rattle.cloud_trait.specs.declared.turn.Turn.{Turn}
 use Rattle.client_work.specs.declared.answer.Answer.{Answer}
 use Rattle.world_core.specs.Sessions.{Changes, IsAtWork, HasPut}
 use Rattle.world_core.specs.Put.{noted_put}

@@ -3,12 +3,7 @@ use Rattle.std.proofs.Common.{◌≡◌, ℕ, List, Some, Ok, refl, ap, ◌∙�
 use Rattle.cloud_facts.proofs.Calls.Rows.{same_traced}
 use Rattle.db_base.specs.declared.wish.Wish.{Wish}
 use Rattle.cloud_trait.specs.Bench.{Waits}
-use Rattle.cloud_trait.specs.declared.answer.Answer.{Answer as CallAnswer}
-use Rattle.cloud_trait.specs.declared.turn.Turn.{Turn}
-use Rattle.cloud_trait.specs.Ask.{Ask}
-use Rattle.cloud_trait.specs.Caller.{Caller}
-use Rattle.cloud_trait.specs.State.{CloudState}
-use Rattle.cloud_trait.specs.Seen.{Seen}
+use Rattle.cloud_facts.specs.Words.{Answer as CallAnswer, Turn, CloudState, Caller, Seen, Ask}
 use Rattle.cloud_trait.specs.Weather.{Makes}
 use Rattle.cloud_trait.proofs.RowLemmas.{leaves_agree}
 use Rattle.cloud_trait.proofs.TracedLemmas.{leaves_traced}

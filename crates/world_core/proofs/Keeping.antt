@@ -6,14 +6,8 @@ use Rattle.client_work.specs.declared.answer.Begun.TheVariants.{Working}
 use Rattle.client_work.specs.declared.op.Op.{Op}
 use Rattle.client_work.specs.declared.op.Op.TheVariants as op
 use Rattle.cloud_facts.proofs.Book.Names.{at_same}
-use Rattle.cloud_facts.specs.Book.Book.{Book}
-use Rattle.cloud_facts.specs.Book.Tally.{at}
-use Rattle.cloud_trait.specs.Caller.{Caller}
-use Rattle.cloud_trait.specs.Seen.{Seen}
-use Rattle.cloud_trait.specs.State.{CloudState}
+use Rattle.cloud_facts.specs.Words.{QueueName, Entry, Turn, More, Ended, CloudState, Caller, Seen, Book, at}
 use Rattle.cloud_trait.specs.Weather.{Leaves}
-use Rattle.cloud_trait.specs.declared.turn.Turn.{Turn}
-use Rattle.cloud_trait.specs.declared.turn.Turn.TheVariants.{More, Ended}
 use Rattle.db_base.specs.Change.{IsChange}
 use Rattle.db_base.specs.declared.refusal.Refused.{Refused}
 use Rattle.db_base.specs.declared.wish.Wish.{Wish}
@@ -21,7 +15,6 @@ use Rattle.db_base.specs.declared.wish.Wish.TheVariants.{Plain}
 use Rattle.event_text.specs.declared.event.Event.{Event}
 use Rattle.event_text.specs.declared.event.Event.TheVariants as event
 use Rattle.reply_text.specs.declared.reply.Reply.{Reply}
-use Rattle.report_types.specs.declared.entry.Entry.{Entry}
 use Rattle.session_facts.proofs.Machines.Commits.Noted.{may_none}
 use Rattle.session_facts.proofs.Sessions.Begins.{begins_keeps}
 use Rattle.session_facts.specs.Lines.Errands.{Errand, settles, sweeps, session_for}
@@ -33,7 +26,6 @@ use Rattle.session_facts.specs.Lines.Facts.{session_at, SettlerRests}
 use Rattle.session_facts.specs.Sessions.Knows.{Sessions, SessionsStand, Goes as SessionGoes, IsRightOp}
 use Rattle.txn_buffer.specs.Noted.{Noted}
 use Rattle.replay_meaning.specs.Standing.{session_of}
-use Rattle.db_base.specs.declared.names.QueueName.{QueueName}
 use Rattle.ckpt_policy.specs.declared.role.Role.{Role}
 use Rattle.world_core.proofs.Errands.{IsRightErrand, begins_errand}
 use Rattle.world_core.proofs.Joining.{may_join}

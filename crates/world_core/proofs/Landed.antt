@@ -13,19 +13,14 @@ use Rattle.client_work.specs.Session.{ask_of_work}
 use Rattle.cloud_trait.proofs.NameLemmas.{queue_cmp-total}
 use Rattle.cloud_trait.proofs.RowLemmas.{leaves_grown}
 use Rattle.cloud_trait.proofs.StateLemmas.{put_at_same}
-use Rattle.cloud_trait.specs.Ask.{Ask, Get, GetHeld, PutHeld, ListHeld, RemoveHeld, Send, Receive, Delete, Take, Renew, Release}
-use Rattle.cloud_trait.specs.Caller.{Caller}
+use Rattle.cloud_facts.specs.Words.{QueueName, Answer as Reply, Turn, Posted, CloudState, called, Caller, Seen, Ask, Get, GetHeld, PutHeld, Send, Receive, Delete, Take, Renew, Release}
+use Rattle.cloud_trait.specs.Ask.{ListHeld, RemoveHeld}
 use Rattle.cloud_trait.specs.Growth.{BeginsWith, HasGrown}
 use Rattle.cloud_trait.specs.Names.{queue_cmp}
-use Rattle.cloud_trait.specs.Seen.{Seen}
-use Rattle.cloud_trait.specs.State.{CloudState, Counts, called}
+use Rattle.cloud_trait.specs.State.{Counts}
 use Rattle.cloud_trait.specs.Upto.{posts_of}
 use Rattle.cloud_trait.specs.Weather.{Leaves, Weather}
-use Rattle.cloud_trait.specs.declared.answer.Answer.{Answer as Reply}
 use Rattle.cloud_trait.specs.declared.answer.Answer.TheVariants as call
-use Rattle.cloud_trait.specs.declared.state.Posted.{Posted}
-use Rattle.cloud_trait.specs.declared.turn.Turn.{Turn}
-use Rattle.db_base.specs.declared.names.QueueName.{QueueName}
 use Rattle.db_base.specs.declared.names.QueueName.TheVariants.{Atomic, TreePu, PagePu}
 use Rattle.db_base.specs.declared.wish.Wish.{Wish}
 use Rattle.session_facts.proofs.Sessions.Replied.{IsReplied, replied}

@@ -5,9 +5,8 @@ use Rattle.std.proofs.lemmas.List.{set-get_or, set-set}
 use Rattle.std.proofs.lemmas.Option.{slice_get_within, slice_get-get_or}
 use Rattle.db_base.specs.declared.refusal.Refused.{Refused}
 use Rattle.db_base.specs.declared.refusal.Refused.TheVariants as refused
-use Rattle.db_base.specs.declared.trouble.CommitAnswer.{CommitAnswer}
+use Rattle.cloud_facts.specs.Words.{Trouble, CommitAnswer, QueueName, Answer as Heard, Turn, More, Ended, Stopped, Caller, Seen, Claim, Ask, Release, Ends}
 use Rattle.db_base.specs.declared.trouble.CommitAnswer.TheVariants.{Committed, NotCommitted, InDoubt, CommittedOpen}
-use Rattle.db_base.specs.declared.trouble.Trouble.{Trouble}
 use Rattle.db_base.specs.declared.trouble.Trouble.TheVariants as trouble
 use Rattle.db_base.specs.declared.wish.Wish.{Wish}
 use Rattle.db_base.specs.declared.wish.Wish.TheVariants.{Plain}
@@ -16,14 +15,6 @@ use Rattle.reply_text.specs.declared.reply.Reply.{Reply}
 use Rattle.reply_text.specs.declared.reply.Reply.TheVariants as reply
 use Rattle.txn_buffer.specs.Noted.{Noted}
 use Rattle.page_cache.specs.Cache.{Cache}
-use Rattle.cloud_trait.specs.Ask.{Ask, Release}
-use Rattle.cloud_trait.specs.Caller.{Caller}
-use Rattle.cloud_trait.specs.Claim.{Claim}
-use Rattle.cloud_trait.specs.Machine.{Ends}
-use Rattle.cloud_trait.specs.Seen.{Seen}
-use Rattle.cloud_trait.specs.declared.answer.Answer.{Answer as Heard}
-use Rattle.cloud_trait.specs.declared.turn.Turn.{Turn}
-use Rattle.cloud_trait.specs.declared.turn.Turn.TheVariants.{More, Ended, Stopped}
 use Rattle.recover_run.specs.declared.home.Home.{Home}
 use Rattle.recover_run.specs.declared.stage.RecoverAnswer.{RecoverAnswer}
 use Rattle.recover_run.specs.Recovery.{Recovery, Step as Leads, recovery_ask, under}
@@ -43,7 +34,6 @@ use Rattle.client_work.specs.declared.work.Work.TheVariants.{Closed, Idle, Openi
 use Rattle.client_work.specs.BrokenOff.{broken_off, broken_work}
 use Rattle.client_work.specs.Session.{Acting, closed_session, Begins, BeginsWith, CommitsIn, CommitsNoted, CommitsOf, Follows, HasInHand, LooksIn, LooksOf, ReadsIn, ReadsOf, ScansIn, folding_begun_by, paging_begun_by, StepsAt, StepsSession, ask_of_work, committed_work, stopped_work, acting_of}
 use Rattle.session_facts.proofs.Rows.CallKinds.{HasCheckpoint}
-use Rattle.db_base.specs.declared.names.QueueName.{QueueName}
 use Rattle.ckpt_policy.specs.declared.role.Role.{Role}
 use Rattle.session_facts.specs.Sessions.Knows.{Sessions}
 use Rattle.session_facts.specs.Lines.Facts.{session_at}

@@ -17,27 +17,18 @@ use Rattle.client_work.specs.declared.shown.Shown.TheVariants.{Listed}
 use Rattle.client_work.specs.declared.work.Work.{Work}
 use Rattle.client_work.specs.declared.work.Work.TheVariants.{Looking}
 use Rattle.cloud_facts.proofs.Book.Names.{at_same}
-use Rattle.cloud_trait.specs.Ask.{Get}
-use Rattle.cloud_trait.specs.Caller.{Caller}
-use Rattle.cloud_trait.specs.Machine.{Deed}
-use Rattle.cloud_trait.specs.Seen.{Seen}
-use Rattle.cloud_trait.specs.State.{CloudState, Counts, called, newest_of}
+use Rattle.cloud_facts.specs.Words.{ObjName, Entry, Leaf, Answer as Heard, Turn, More, Ended, CloudState, called, Caller, Seen, Get, Deed}
+use Rattle.cloud_trait.specs.State.{Counts, newest_of}
 use Rattle.cloud_trait.specs.Weather.{Weather, Leaves}
-use Rattle.cloud_trait.specs.declared.answer.Answer.{Answer as Heard}
 use Rattle.cloud_trait.specs.declared.answer.Answer.TheVariants.{Got, Failed, Memory}
 use Rattle.cloud_trait.specs.declared.state.Landing.{Landing}
-use Rattle.cloud_trait.specs.declared.turn.Turn.{Turn}
-use Rattle.cloud_trait.specs.declared.turn.Turn.TheVariants.{More, Ended}
-use Rattle.db_base.specs.declared.names.ObjName.{ObjName}
 use Rattle.db_base.specs.declared.pair.Pair.{Pair}
 use Rattle.db_base.specs.declared.wish.Wish.TheVariants.{Plain}
-use Rattle.leaf_view.specs.Leaf.{Leaf}
 use Rattle.page_cache.specs.Cache.{Cache}
 use Rattle.recover_run.specs.declared.home.Home.{Home}
 use Rattle.replay_meaning.proofs.SameLemmas.{finds_same}
 use Rattle.replay_meaning.specs.Committed.{Versions, committed, committed_by}
 use Rattle.replay_meaning.specs.Standing.{Line}
-use Rattle.report_types.specs.declared.entry.Entry.{Entry}
 use Rattle.session_facts.proofs.Index.NewestLeaves.{applied_same, looked_newest}
 use Rattle.session_facts.proofs.Lines.Outcome.{made_call, wish_holds}
 use Rattle.session_facts.specs.Lines.Facts.{session_at, CloudHolds}

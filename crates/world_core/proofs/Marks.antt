@@ -1,10 +1,7 @@
 -- The newest call after a step.
 use Rattle.std.proofs.Common.{ℕ, List, Ok}
-use Rattle.cloud_trait.specs.Caller.{Caller}
-use Rattle.cloud_trait.specs.State.{CloudState}
-use Rattle.cloud_trait.specs.Seen.{Seen}
+use Rattle.cloud_facts.specs.Words.{Turn, CloudState, Caller, Seen}
 use Rattle.cloud_trait.specs.Weather.{Leaves}
-use Rattle.cloud_trait.specs.declared.turn.Turn.{Turn}
 use Rattle.cloud_trait.proofs.RowLemmas.{leaves_last, leaves_waits}
 use Rattle.db_base.specs.declared.wish.Wish.{Wish}
 use Rattle.client_work.specs.declared.answer.Answer.{Answer}

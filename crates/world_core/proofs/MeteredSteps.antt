@@ -7,13 +7,8 @@ use Rattle.client_work.specs.declared.answer.Answer.TheVariants as answer
 use Rattle.client_work.specs.declared.work.Work.{Work}
 use Rattle.client_work.specs.Session.{Acting, ask_of_work}
 use Rattle.cloud_facts.proofs.Book.Names.{at_same}
-use Rattle.cloud_trait.specs.Ask.{Ask}
-use Rattle.cloud_trait.specs.Caller.{Caller}
-use Rattle.cloud_trait.specs.Seen.{Seen}
-use Rattle.cloud_trait.specs.State.{CloudState, called}
+use Rattle.cloud_facts.specs.Words.{Turn, More, Ended, CloudState, called, Caller, Seen, Ask}
 use Rattle.cloud_trait.specs.Weather.{Leaves}
-use Rattle.cloud_trait.specs.declared.turn.Turn.{Turn}
-use Rattle.cloud_trait.specs.declared.turn.Turn.TheVariants.{More, Ended}
 use Rattle.db_base.specs.declared.wish.Wish.{Wish}
 use Rattle.db_base.specs.declared.wish.Wish.TheVariants.{Plain}
 use Rattle.session_facts.proofs.Lines.Outcome.{MadeCall, made_call}

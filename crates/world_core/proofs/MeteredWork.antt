@@ -16,11 +16,8 @@ use Rattle.client_work.specs.declared.work.Work.TheVariants.{Folding, Paging}
 use Rattle.client_work.specs.Session.{Acting}
 use Rattle.cloud_facts.proofs.Book.Names.{at_same}
 use Rattle.cloud_trait.specs.declared.turn.CkptAnswer.{CkptAnswer}
-use Rattle.cloud_trait.specs.Caller.{Caller}
+use Rattle.cloud_facts.specs.Words.{QueueName, CloudState, Caller, Seen}
 use Rattle.cloud_trait.specs.Delivery.{unmarked}
-use Rattle.cloud_trait.specs.Seen.{Seen}
-use Rattle.cloud_trait.specs.State.{CloudState}
-use Rattle.db_base.specs.declared.names.QueueName.{QueueName}
 use Rattle.db_base.specs.declared.names.QueueName.TheVariants.{Atomic, TreePu, PagePu}
 use Rattle.db_base.specs.declared.wish.Wish.TheVariants.{Plain}
 use Rattle.page_ckpt.specs.Paging.{new_paging, paging_ask, PagingLeads}

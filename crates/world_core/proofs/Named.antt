@@ -1,11 +1,7 @@
 -- A tree checkpoint that a line brings to its end names its new pieces, whichever lines made its calls.
 use Rattle.std.proofs.Common.{◌≡◌, ◌+◌, inl, inr, ℕ, Bool, true, false, List, length, Some, Result, Ok, Err, sym, subst, ◌∙◌, ◌++◌, ◌∷◌, []}
 use Rattle.client_work.specs.declared.answer.Answer.{Answer}
-use Rattle.cloud_trait.specs.Caller.{Caller}
-use Rattle.cloud_trait.specs.Seen.{Seen}
-use Rattle.cloud_trait.specs.State.{CloudState}
-use Rattle.cloud_trait.specs.declared.turn.Turn.TheVariants.{More, Ended}
-use Rattle.cloud_trait.specs.declared.turn.Turn.{Turn}
+use Rattle.cloud_facts.specs.Words.{QueueName, Turn, More, Ended, CloudState, Caller, Seen, at}
 use Rattle.db_base.specs.declared.refusal.Refused.{Refused}
 use Rattle.db_base.specs.declared.wish.Wish.{Wish}
 use Rattle.db_base.specs.declared.wish.Wish.TheVariants.{Plain}
@@ -16,9 +12,7 @@ use Rattle.session_facts.specs.Lines.Counted.{calls_told, CountsAll}
 use Rattle.session_facts.specs.Lines.Facts.{session_at}
 use Rattle.recover_run.specs.declared.home.Home.{Home}
 use Rattle.session_facts.proofs.Rows.CallKinds.{IsWorkersRow}
-use Rattle.db_base.specs.declared.names.QueueName.{QueueName}
 use Rattle.session_facts.specs.Sessions.Knows.{Sessions}
-use Rattle.cloud_facts.specs.Book.Tally.{at}
 use Rattle.session_facts.proofs.Lines.More.{line_of}
 use Rattle.world_core.proofs.Workers.{HoldsWithin, IsBetween, holds_begun, holds_step, holds_went, holds_works, open_rests, within_begun, within_went, within_works, worker, worker_begins, worker_rows}
 use Rattle.world_core.proofs.Counting.{names_of, begins_own, went_counts, begun_none, worker_names, worker_went, works_none}

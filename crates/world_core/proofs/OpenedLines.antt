@@ -10,12 +10,7 @@ use Rattle.reply_text.specs.declared.reply.Reply.{Reply}
 use Rattle.reply_text.specs.declared.reply.Reply.TheVariants as reply
 use Rattle.txn_buffer.specs.Noted.{Noted}
 use Rattle.page_cache.specs.Cache.{Cache}
-use Rattle.cloud_trait.specs.Caller.{Caller}
-use Rattle.cloud_trait.specs.Machine.{Goes, Ends}
-use Rattle.cloud_trait.specs.State.{CloudState}
-use Rattle.cloud_trait.specs.Seen.{Seen}
-use Rattle.cloud_trait.specs.declared.turn.Turn.{Turn}
-use Rattle.cloud_trait.specs.declared.turn.Turn.TheVariants.{More, Ended}
+use Rattle.cloud_facts.specs.Words.{QueueName, Head, Turn, More, Ended, CloudState, Caller, Seen, Goes, Ends, at}
 use Rattle.recover_run.specs.declared.home.Home.{Home}
 use Rattle.tree_walk.specs.Walk.{new_walk}
 use Rattle.attr_index.specs.Look.{Query}
@@ -28,7 +23,6 @@ use Rattle.client_work.specs.declared.op.Op.{Op}
 use Rattle.client_work.specs.declared.op.Op.TheVariants as op
 use Rattle.client_work.specs.declared.shown.Shown.{Shown}
 use Rattle.client_work.specs.declared.work.Work.{Work}
-use Rattle.head_codec.specs.declared.head.Head.{Head}
 use Rattle.client_work.specs.declared.work.Work.TheVariants as work
 use Rattle.client_work.specs.BrokenOff.{broken_off}
 use Rattle.client_work.specs.Session.{Acting, closed_session, StepsSession, Begins, BeginsWith, BeginsOpening, HasInHand, CommitsIn, CommitsOf, CommitsNoted, LooksIn, LooksOf, ReadsOf, ReadsIn, ScansIn, old_lease, stopped_work, paging_begun_by, folding_begun_by}
@@ -47,9 +41,7 @@ use Rattle.session_facts.specs.Lines.Errands.{Errand, settles, sweeps, event_for
 use Rattle.world_audit.specs.Look.{Looked}
 use Rattle.db_base.specs.declared.names.QueueName.TheVariants.{Atomic, PagePu, TreePu}
 use Rattle.ckpt_policy.specs.Notes.{IsPending}
-use Rattle.db_base.specs.declared.names.QueueName.{QueueName}
 use Rattle.ckpt_policy.specs.declared.role.Role.{Role}
-use Rattle.cloud_facts.specs.Book.Tally.{at}
 use Rattle.world_core.proofs.Workers.{IsBetween, open_rests, within_begun, within_went, within_works, worker, IsInside}
 use Rattle.world_core.specs.World.{World}
 use Rattle.world_core.specs.declared.asked.Noting.{Noting}

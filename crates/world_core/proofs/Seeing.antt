@@ -1,13 +1,10 @@
 -- What a line leaves of what its world sees: no call fails a look, and a look at a put that failed blinds it.
 use Rattle.std.proofs.Common.{◌≡◌, ◌≤◌, ◌⊎◌, ℕ, Bool, true, false, Result, Ok, Err, refl, sym, ap, subst, ◌∙◌, inl, inr, arith, List}
-use Rattle.cloud_trait.specs.Caller.{Caller}
-use Rattle.cloud_trait.specs.Seen.{Seen}
+use Rattle.cloud_facts.specs.Words.{IsTree, QueueName, Turn, Caller, Seen}
 use Rattle.cloud_trait.specs.State.{Counts}
 use Rattle.cloud_trait.specs.Weather.{Rose}
-use Rattle.cloud_trait.specs.declared.turn.Turn.{Turn}
 use Rattle.client_work.specs.declared.answer.Answer.{Answer}
 use Rattle.client_work.specs.Session.{Acting}
-use Rattle.db_base.specs.Ids.{IsTree}
 use Rattle.db_base.specs.declared.refusal.Refused.{Refused}
 use Rattle.db_base.specs.declared.wish.Wish.{Wish}
 use Rattle.event_text.specs.declared.event.Event.{Event}
@@ -16,7 +13,6 @@ use Rattle.report_types.specs.declared.report.Report.{Report as ReportShown}
 use Rattle.reply_text.specs.declared.reply.Reply.{Reply}
 use Rattle.reply_text.specs.declared.reply.Reply.TheVariants as reply
 use Rattle.session_facts.proofs.Lines.Outcome.{made_call}
-use Rattle.db_base.specs.declared.names.QueueName.{QueueName}
 use Rattle.ckpt_policy.specs.declared.role.Role.{Role}
 use Rattle.world_core.specs.World.{World}
 use Rattle.world_core.specs.declared.asked.Asked.{Asked}

@@ -1,9 +1,7 @@
 -- What each step of a line shows where it ends a read, a scan or a look-up, as its session says it.
 use Rattle.std.proofs.Common.{ℕ, Result}
 use Rattle.client_work.specs.declared.answer.Answer.{Answer}
-use Rattle.cloud_trait.specs.Caller.{Caller}
-use Rattle.cloud_trait.specs.Seen.{Seen}
-use Rattle.cloud_trait.specs.declared.turn.Turn.{Turn}
+use Rattle.cloud_facts.specs.Words.{Turn, Caller, Seen}
 use Rattle.db_base.specs.declared.wish.Wish.{Wish}
 use Rattle.event_text.specs.declared.event.Event.{Event}
 use Rattle.reply_text.specs.declared.reply.Reply.{Reply}

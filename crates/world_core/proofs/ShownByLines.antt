@@ -2,12 +2,8 @@
 use Rattle.std.proofs.Common.{inl, inr, ◌≡◌, ◌+◌, ℕ, List, length, Some, Result, refl, sym, subst, ◌∙◌}
 use Rattle.client_work.specs.Session.{Acting}
 use Rattle.client_work.specs.declared.answer.Answer.{Answer}
-use Rattle.cloud_trait.specs.Caller.{Caller}
-use Rattle.cloud_trait.specs.Seen.{Seen}
-use Rattle.cloud_trait.specs.State.{CloudState}
+use Rattle.cloud_facts.specs.Words.{QueueName, Turn, More, Ended, CloudState, Caller, Seen}
 use Rattle.cloud_facts.proofs.Book.Names.{at_same}
-use Rattle.cloud_trait.specs.declared.turn.Turn.{Turn}
-use Rattle.cloud_trait.specs.declared.turn.Turn.TheVariants.{More, Ended}
 use Rattle.db_base.specs.declared.wish.Wish.{Wish}
 use Rattle.db_base.specs.declared.wish.Wish.TheVariants.{Plain}
 use Rattle.event_text.specs.declared.event.Event.{Event}
@@ -21,7 +17,6 @@ use Rattle.session_facts.proofs.Lines.Shown.{IsSettler, shown_by_lines, settler_
 use Rattle.session_facts.proofs.Lines.Outcome.{wish_holds}
 use Rattle.session_facts.proofs.Rows.CallKinds.{HasCheckpoint}
 use Rattle.recover_run.specs.declared.home.Home.{Home}
-use Rattle.db_base.specs.declared.names.QueueName.{QueueName}
 use Rattle.session_facts.specs.Sessions.Knows.{Sessions}
 use Rattle.world_core.proofs.Workers.{IsInside, IsBetween, open_rests, within_begun, within_went, within_works}
 use Rattle.world_core.specs.World.{World}

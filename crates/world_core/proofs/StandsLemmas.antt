@@ -1,11 +1,10 @@
 -- A line keeps what stands.
 use Rattle.std.proofs.Common.{◌≡◌, ◌+◌, ◌≤◌, ℕ, List, [], ◌∷◌, ◌++◌, length, Option, Some, None, Result, Ok, Err, refl, sym, ap, subst, ◌∙◌, inl, inr, Bool, true, false, ◌⊎◌, ◌≢◌, arith}
 use Rattle.std.proofs.lemmas.Bool.{cases_eq}
-use Rattle.db_base.specs.Ids.{IsTree}
+use Rattle.cloud_facts.specs.Words.{IsTree, Trouble, Entry, Turn, More, Ended, Stopped, CloudState, newest, Caller, Seen, at}
 use Rattle.db_base.specs.declared.refusal.Refusal.{Refusal}
 use Rattle.db_base.specs.declared.refusal.Refused.{Refused}
 use Rattle.db_base.specs.declared.refusal.Refused.TheVariants as refused
-use Rattle.db_base.specs.declared.trouble.Trouble.{Trouble}
 use Rattle.db_base.specs.declared.trouble.Trouble.TheVariants as trouble
 use Rattle.db_base.specs.declared.wish.Wish.{Wish}
 use Rattle.db_base.specs.declared.wish.Wish.TheVariants.{Plain}
@@ -14,13 +13,8 @@ use Rattle.event_text.specs.declared.event.Event.{Event}
 use Rattle.event_text.specs.declared.event.Event.TheVariants as event
 use Rattle.reply_text.specs.declared.reply.Reply.{Reply}
 use Rattle.reply_text.specs.declared.reply.Reply.TheVariants as reply
-use Rattle.report_types.specs.declared.entry.Entry.{Entry}
 use Rattle.report_types.specs.declared.report.Report.{Report as ReportShown}
-use Rattle.cloud_trait.specs.Caller.{Caller}
-use Rattle.cloud_trait.specs.State.{CloudState, newest, greatest, end_after}
-use Rattle.cloud_trait.specs.Seen.{Seen}
-use Rattle.cloud_trait.specs.declared.turn.Turn.{Turn}
-use Rattle.cloud_trait.specs.declared.turn.Turn.TheVariants.{More, Ended, Stopped}
+use Rattle.cloud_trait.specs.State.{greatest, end_after}
 use Rattle.cloud_trait.proofs.EffectLemmas.{begins_same}
 use Rattle.ckpt_policy.specs.declared.role.Role.{Role}
 use Rattle.client_work.specs.declared.answer.Answer.{Answer}
@@ -29,7 +23,6 @@ use Rattle.client_work.specs.Session.{Acting, closed_session, StepsSession, item
 use Rattle.history.specs.Audited.{Audited}
 use Rattle.history.specs.Fold.{of_tree}
 use Rattle.world_audit.specs.Counts.{heads_upto, AreWaiting}
-use Rattle.cloud_facts.specs.Book.Tally.{at}
 use Rattle.cloud_facts.proofs.Book.Names.{at_same, at_other}
 use Rattle.session_facts.specs.Sessions.Audited.{audited}
 use Rattle.session_facts.specs.Sessions.Knows.{Sessions, SessionsStand}

@@ -1,9 +1,7 @@
 -- The reply to a report that a trouble stopped.
 use Rattle.std.proofs.Common.{ℕ}
-use Rattle.db_base.specs.Ids.{IsTree}
-use Rattle.db_base.specs.declared.trouble.Trouble.{Trouble}
+use Rattle.cloud_facts.specs.Words.{IsTree, Trouble, Seen}
 use Rattle.db_base.specs.declared.trouble.Trouble.TheVariants as trouble
-use Rattle.cloud_trait.specs.Seen.{Seen}
 use Rattle.world_core.specs.World.{World}
 use Rattle.world_core.specs.Replying.{trouble_reply}
 use Rattle.world_core.specs.Handled.{StopsBy, ReportReply}

@@ -7,19 +7,8 @@ use Rattle.client_work.specs.declared.work.Work.{Work}
 use Rattle.client_work.specs.declared.work.Work.TheVariants as work
 use Rattle.cloud_facts.proofs.Book.Names.{at_same}
 use Rattle.cloud_facts.proofs.Calls.Calls.{call_of}
-use Rattle.cloud_facts.specs.Book.Book.{Book}
-use Rattle.cloud_facts.specs.Book.Tally.{at}
-use Rattle.cloud_facts.specs.Calls.Call.{IsCall}
-use Rattle.cloud_facts.specs.Tellings.Told.{store_of}
-use Rattle.cloud_trait.specs.Caller.{Caller}
-use Rattle.cloud_trait.specs.Seen.{Seen}
-use Rattle.cloud_trait.specs.State.{CloudState}
+use Rattle.cloud_facts.specs.Words.{IsTree, Trouble, Entry, Answer as Heard, Turn, More, Ended, CloudState, Caller, Seen, Book, at, store_of, IsCall}
 use Rattle.cloud_trait.specs.Weather.{Makes, Leaves}
-use Rattle.cloud_trait.specs.declared.answer.Answer.{Answer as Heard}
-use Rattle.cloud_trait.specs.declared.turn.Turn.{Turn}
-use Rattle.cloud_trait.specs.declared.turn.Turn.TheVariants.{More, Ended}
-use Rattle.db_base.specs.Ids.{IsTree}
-use Rattle.db_base.specs.declared.trouble.Trouble.{Trouble}
 use Rattle.db_base.specs.declared.trouble.Trouble.TheVariants as trouble
 use Rattle.db_base.specs.declared.wish.Wish.TheVariants.{Plain}
 use Rattle.event_text.specs.declared.event.Event.{Event}
@@ -27,7 +16,6 @@ use Rattle.event_text.specs.declared.event.Event.TheVariants as event
 use Rattle.orphan_sweep.specs.Sweeping.{Sweeping, new_sweeping, sweep_ask}
 use Rattle.orphan_sweep.specs.declared.swept.Swept.{Swept}
 use Rattle.reply_text.specs.declared.reply.Reply.{Reply}
-use Rattle.report_types.specs.declared.entry.Entry.{Entry}
 use Rattle.session_facts.proofs.Sessions.Outcome.{session_keeps}
 use Rattle.session_facts.proofs.Sessions.Laws.{rest_keeps, same_sessions}
 use Rattle.session_facts.proofs.Machines.Sweeps.Remains.{itself_remains, same_remains, same_just}

@@ -3,15 +3,11 @@ use Rattle.std.proofs.Common.{◌≡◌, ℕ, Bool, true, false, Option, Some, N
 use Rattle.std.specs.Prelude.{IfOk}
 use Rattle.db_base.specs.declared.refusal.Refused.{Refused}
 use Rattle.db_base.specs.declared.refusal.Refused.TheVariants as refused
-use Rattle.db_base.specs.declared.trouble.CommitAnswer.{CommitAnswer}
+use Rattle.cloud_facts.specs.Words.{Trouble, CommitAnswer, Turn, More, Ended, Stopped, Seen}
 use Rattle.db_base.specs.declared.trouble.CommitAnswer.TheVariants.{Committed, NotCommitted, InDoubt, CommittedOpen}
-use Rattle.db_base.specs.declared.trouble.Trouble.{Trouble}
 use Rattle.db_base.specs.declared.trouble.Trouble.TheVariants as trouble
 use Rattle.db_base.specs.declared.wish.Wish.{Wish}
 use Rattle.db_base.specs.Value.{Value}
-use Rattle.cloud_trait.specs.Seen.{Seen}
-use Rattle.cloud_trait.specs.declared.turn.Turn.{Turn}
-use Rattle.cloud_trait.specs.declared.turn.Turn.TheVariants.{More, Ended, Stopped}
 use Rattle.client_work.specs.Session.{Acting, items_of, value_of}
 use Rattle.client_work.specs.declared.answer.Answer.{Answer}
 use Rattle.client_work.specs.declared.answer.Answer.TheVariants as answer

@@ -1,12 +1,11 @@
 -- Behind lines of no commit nothing was committed, and no message is in a pending update queue; a session that is still to be bound as a writer has no others.
 use Rattle.std.proofs.Common.{◌≡◌, ◌≢◌, ◌-◌, ◌==◌, ℕ, zero, suc, Bool, true, false, cond, List, [], ◌∷◌, ◌++◌, length, take, Option, Some, None, refl, ap, ◌∙◌, arith, ne_eqb}
 use Rattle.ckpt_policy.specs.declared.place.Place.{Place}
-use Rattle.cloud_facts.specs.Book.Records.{IsIn, entries_of}
+use Rattle.cloud_facts.specs.Words.{Entry, AtomicRec, Head, Posted, CloudState, IsIn}
+use Rattle.cloud_facts.specs.Book.Records.{entries_of}
 use Rattle.cloud_facts.specs.Book.Telling.{queue_of}
 use Rattle.cloud_trait.specs.Delivery.{unmarked}
-use Rattle.cloud_trait.specs.State.{CloudState}
 use Rattle.cloud_trait.specs.declared.state.Landing.{Landing}
-use Rattle.cloud_trait.specs.declared.state.Posted.{Posted}
 use Rattle.cloud_trait.specs.declared.state.Site.{Site}
 use Rattle.cloud_trait.specs.declared.state.Site.TheVariants.{Object, Queue}
 use Rattle.db_base.specs.declared.names.ObjName.TheVariants as object
@@ -14,16 +13,13 @@ use Rattle.db_base.specs.declared.names.QueueName.TheVariants.{TreePu, PagePu}
 use Rattle.db_base.specs.declared.trouble.CommitAnswer.TheVariants.{InDoubt, CommittedOpen}
 use Rattle.event_text.specs.declared.event.Event.{Event}
 use Rattle.event_text.specs.declared.event.Event.TheVariants as event
-use Rattle.head_codec.specs.declared.head.Head.{Head}
 use Rattle.head_codec.specs.declared.head.Phase.{Phase}
 use Rattle.head_codec.specs.declared.head.Phase.TheVariants as phase
 use Rattle.head_codec.specs.Spelling.{head_of}
-use Rattle.log_codec.specs.declared.record.AtomicRec.{AtomicRec}
 use Rattle.replay_meaning.specs.Committed.{Versions, changes_at, task_changes, entries_of_bytes, entries_of_head, entries_of_phase, site_entries, row_entries, committed_by}
 use Rattle.replay_meaning.specs.Standing.{Line, Task, Opening, Closing, Renewing, Committing, Reading, Scanning, LookingUp, Paging, Folding, Posture, Closed, Idle, Broken, Working, Standing, aborts, after_line, after_own, answered, begins, begins_opening, commit_answered, crashes, joins, opening_answered, session_of, standing, standing_from, steps, task_answered, unnamed}
 use Rattle.reply_text.specs.declared.reply.Reply.{Reply}
 use Rattle.reply_text.specs.declared.reply.Reply.TheVariants as reply
-use Rattle.report_types.specs.declared.entry.Entry.{Entry}
 use Rattle.session_notes.specs.Metered.{waiting_at}
 use Rattle.txn_buffer.specs.Noted.{Noted}
 use Rattle.world_core.proofs.Behind.{LinesStand}

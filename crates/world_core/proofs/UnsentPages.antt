@@ -6,42 +6,25 @@ use Rattle.ckpt_parts.specs.Leasing.{newest_lease}
 use Rattle.ckpt_parts.specs.declared.leases.Leases.{Leases}
 use Rattle.cloud_facts.proofs.Calls.Calls.{call_of}
 use Rattle.cloud_facts.proofs.Calls.Heads.{held_seen}
-use Rattle.cloud_facts.specs.Book.Book.{Book, Link}
+use Rattle.cloud_facts.specs.Words.{IsTree, Trouble, QueueName, Lock, Entry, PuItem, Answer, Posted, CloudState, called, newest, Caller, Seen, Claim, Ask, GetHeld, Release, Goes, Ends, Stops, done_of, got_of, given_of, received_of, Book, Link, Store, IsIn, StandsAt, store_of, IsCall, StandsUnder}
 use Rattle.cloud_facts.specs.Book.Premises.{IsRouted}
-use Rattle.cloud_facts.specs.Book.Records.{IsIn, StandsAt}
-use Rattle.cloud_facts.specs.Book.Tally.{Store}
-use Rattle.cloud_facts.specs.Calls.Call.{IsCall}
-use Rattle.cloud_facts.specs.Calls.Standing.{StandsUnder}
 use Rattle.cloud_facts.specs.Numbers.Numbers.{IsOfRecord, Numbers}
-use Rattle.cloud_facts.specs.Tellings.Told.{store_of}
 use Rattle.cloud_trait.proofs.RowLemmas.{row_messages}
-use Rattle.cloud_trait.specs.Ask.{Ask, GetHeld, Release, TouchesNoMessage}
-use Rattle.cloud_trait.specs.Caller.{Caller}
-use Rattle.cloud_trait.specs.Claim.{Claim}
-use Rattle.cloud_trait.specs.Machine.{Goes, Ends, Stops}
-use Rattle.cloud_trait.specs.Seen.{Seen}
-use Rattle.cloud_trait.specs.State.{CloudState, called, newest}
-use Rattle.cloud_trait.specs.Views.{trouble_of, given_of, got_of, received_of, done_of}
+use Rattle.cloud_trait.specs.Ask.{TouchesNoMessage}
+use Rattle.cloud_trait.specs.Views.{trouble_of}
 use Rattle.cloud_trait.specs.Weather.{Makes}
-use Rattle.cloud_trait.specs.declared.answer.Answer.{Answer}
 use Rattle.cloud_trait.specs.declared.answer.Answer.TheVariants as call
 use Rattle.cloud_trait.specs.declared.message.Message.{Message}
-use Rattle.cloud_trait.specs.declared.state.Posted.{Posted}
-use Rattle.db_base.specs.Ids.{IsTree, IsPage}
-use Rattle.db_base.specs.declared.names.Lock.{Lock}
+use Rattle.db_base.specs.Ids.{IsPage}
 use Rattle.db_base.specs.declared.names.ObjName.TheVariants as object
-use Rattle.db_base.specs.declared.names.QueueName.{QueueName}
 use Rattle.db_base.specs.declared.names.QueueName.TheVariants.{PagePu}
-use Rattle.db_base.specs.declared.trouble.Trouble.{Trouble}
 use Rattle.db_base.specs.declared.trouble.Trouble.TheVariants as trouble
-use Rattle.log_codec.specs.declared.record.PuItem.{PuItem}
 use Rattle.page_ckpt.proofs.Outcomes.{Onward, Clears, Fails, Comes, comes}
 use Rattle.page_ckpt.proofs.Outcomes as step
 use Rattle.page_ckpt.specs.Paging.{Paging, Step, HoldsNamed, PagingLeads, ask_at, home_name, own_queue, paging_ask, right_name, under}
 use Rattle.page_ckpt.specs.declared.link.Link.{Link as Found}
 use Rattle.page_ckpt.specs.declared.stage.Stage.{Stage}
 use Rattle.page_ckpt.specs.declared.stage.Stage.TheVariants.{GettingHome, GettingRight, Releasing}
-use Rattle.report_types.specs.declared.entry.Entry.{Entry}
 use Rattle.session_facts.proofs.Machines.PageCheckpoints.Explains.{KeepsNext, waiting_kept}
 use Rattle.session_facts.proofs.Machines.PageCheckpoints.Reads.{linked_is, named_leaf}
 use Rattle.session_facts.proofs.Machines.Runs.Leaves.{own_queue as queue_is}

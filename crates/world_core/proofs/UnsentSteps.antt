@@ -6,24 +6,14 @@ use Rattle.client_work.specs.declared.answer.Answer.TheVariants as answer
 use Rattle.client_work.specs.declared.work.Work.{Work}
 use Rattle.client_work.specs.declared.work.Work.TheVariants as work
 use Rattle.cloud_facts.proofs.Book.Names.{at_same}
-use Rattle.cloud_facts.specs.Book.Book.{Book}
-use Rattle.cloud_facts.specs.Calls.Standing.{StandsUnder}
+use Rattle.cloud_facts.specs.Words.{Trouble, Entry, Turn, More, Ended, CloudState, Caller, Seen, Goes, Stops, Book, store_of, StandsUnder}
 use Rattle.cloud_facts.specs.Homes.Homes.{Part}
-use Rattle.cloud_facts.specs.Tellings.Told.{store_of}
-use Rattle.cloud_trait.specs.Caller.{Caller}
-use Rattle.cloud_trait.specs.Machine.{Goes, Stops}
-use Rattle.cloud_trait.specs.Seen.{Seen}
-use Rattle.cloud_trait.specs.State.{CloudState}
-use Rattle.cloud_trait.specs.declared.turn.Turn.{Turn}
-use Rattle.cloud_trait.specs.declared.turn.Turn.TheVariants.{More, Ended}
-use Rattle.db_base.specs.declared.trouble.Trouble.{Trouble}
 use Rattle.db_base.specs.declared.trouble.Trouble.TheVariants as trouble
 use Rattle.db_base.specs.declared.wish.Wish.{Wish}
 use Rattle.db_base.specs.declared.wish.Wish.TheVariants.{Plain}
 use Rattle.page_cache.specs.Cache.{Cache}
 use Rattle.page_ckpt.specs.Paging.{Paging}
 use Rattle.replay_meaning.specs.Standing.{Line}
-use Rattle.report_types.specs.declared.entry.Entry.{Entry}
 use Rattle.session_facts.proofs.Machines.PageCheckpoints.Stays.{same_page}
 use Rattle.session_facts.proofs.Sessions.Untroubled.{IsAtRest}
 use Rattle.session_facts.proofs.Lines.Outcome.{wish_holds}

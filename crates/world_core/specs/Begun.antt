@@ -1,14 +1,11 @@
 -- Why an operation that was answered at its begin came to that, over any cloud: it made no call, so what its client has and keeps shows it.
-use Rattle.cloud_trait.specs.Caller.{Caller}
+use Rattle.cloud_facts.specs.Words.{Trouble, CommitAnswer, Ended, Caller}
 use Rattle.std.specs.Prelude.{ℕ, ◌≡◌, ◌≢◌, ◌⊎◌, [], List, false, Some, Result, Ok, Err}
 use Rattle.std.proofs.Common.{inl, inr}
-use Rattle.db_base.specs.declared.trouble.CommitAnswer.{CommitAnswer}
 use Rattle.db_base.specs.declared.trouble.CommitAnswer.TheVariants.{Committed}
-use Rattle.db_base.specs.declared.trouble.Trouble.{Trouble}
 use Rattle.db_base.specs.declared.trouble.Trouble.TheVariants as trouble
 use Rattle.db_base.specs.declared.refusal.Refused.{Refused}
 use Rattle.txn_buffer.specs.Noted.{Noted}
-use Rattle.cloud_trait.specs.declared.turn.Turn.TheVariants.{Ended}
 use Rattle.page_cache.specs.Cache.{Cache}
 use Rattle.tree_walk.specs.Causes.{LinkShows}
 use Rattle.tree_walk.specs.Walk.{Walk, new_walk}

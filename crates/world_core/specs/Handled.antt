@@ -1,13 +1,12 @@
 -- What a line does to the world, and its reply.
 use Rattle.std.specs.Prelude.{ℕ, ◌≡◌, ◌≤◌, ◌<◌, ◌+◌, Bool, true, false, not, ◌⊎◌, List, [], ◌∷◌, ◌++◌, slice_get, Option, Some, None, Result, Ok, Err, IfOk}
-use Rattle.db_base.specs.Ids.{IsTree, IsSession}
-use Rattle.db_base.specs.declared.names.QueueName.{QueueName}
+use Rattle.cloud_facts.specs.Words.{IsTree, Trouble, QueueName, Turn, More, Ended, CloudState, newest, Caller, Seen, Ask}
+use Rattle.db_base.specs.Ids.{IsSession}
 use Rattle.db_base.specs.declared.names.QueueName.TheVariants.{Atomic, TreePu, PagePu}
 use Rattle.db_base.specs.declared.refusal.Refusal.{Refusal}
 use Rattle.db_base.specs.declared.refusal.Refusal.TheVariants as rule
 use Rattle.db_base.specs.declared.refusal.Refused.{Refused}
 use Rattle.db_base.specs.declared.refusal.Refused.TheVariants as refused
-use Rattle.db_base.specs.declared.trouble.Trouble.{Trouble}
 use Rattle.db_base.specs.declared.trouble.Trouble.TheVariants as trouble
 use Rattle.db_base.specs.declared.wish.Wish.{Wish}
 use Rattle.db_base.specs.declared.wish.Wish.TheVariants.{Plain}
@@ -17,19 +16,14 @@ use Rattle.reply_text.specs.Reply.{HasText, ReplyHasText}
 use Rattle.reply_text.specs.declared.reply.Reply.{Reply}
 use Rattle.reply_text.specs.declared.reply.Reply.TheVariants as reply
 use Rattle.cloud_trait.specs.Bench.{IsNoCall, Waits}
-use Rattle.cloud_trait.specs.Caller.{Caller}
-use Rattle.cloud_trait.specs.State.{CloudState, newest, greatest}
-use Rattle.cloud_trait.specs.Seen.{Seen}
+use Rattle.cloud_trait.specs.State.{greatest}
 use Rattle.cloud_trait.specs.Weather.{Rose}
-use Rattle.cloud_trait.specs.declared.turn.Turn.{Turn}
-use Rattle.cloud_trait.specs.declared.turn.Turn.TheVariants.{More, Ended}
 use Rattle.ckpt_policy.specs.declared.note.Note.{Note as Noted}
 use Rattle.ckpt_policy.specs.declared.role.Role.{Role}
 use Rattle.ckpt_policy.specs.Ledger.{IsNumber}
 use Rattle.ckpt_policy.specs.Notes.{IsPending}
 use Rattle.session_notes.specs.declared.notebook.Notebook.{Notebook}
 use Rattle.session_notes.specs.Notebook.{blank, note_of_ask, ChangesBook, GoesOnBy, GoesOnEnded, IsDueAt}
-use Rattle.cloud_trait.specs.Ask.{Ask}
 use Rattle.client_work.specs.declared.answer.Answer.{Answer}
 use Rattle.client_work.specs.declared.answer.Answer.TheVariants as answer
 use Rattle.client_work.specs.declared.answer.Begun.{Begun}

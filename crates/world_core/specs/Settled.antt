@@ -3,15 +3,9 @@ use Rattle.std.specs.Prelude.{ℕ, ◌≡◌, ◌≢◌, ◌≤◌, List, [], So
 use Rattle.cloud_trait.specs.Calm.{NamesLasting}
 use Rattle.client_work.specs.Session.{ask_of_work}
 use Rattle.client_work.specs.declared.answer.Answer.{Answer}
-use Rattle.cloud_trait.specs.Ask.{Ask}
-use Rattle.cloud_trait.specs.Caller.{Caller}
+use Rattle.cloud_facts.specs.Words.{IsClient, IsTree, Lock, Entry, Turn, CloudState, Caller, Seen, Ask}
 use Rattle.cloud_trait.specs.Delivery.{unmarked}
-use Rattle.cloud_trait.specs.Seen.{Seen}
-use Rattle.cloud_trait.specs.State.{CloudState}
 use Rattle.cloud_trait.specs.declared.answer.Answer.TheVariants.{Memory}
-use Rattle.cloud_trait.specs.declared.turn.Turn.{Turn}
-use Rattle.db_base.specs.Ids.{IsClient, IsTree}
-use Rattle.db_base.specs.declared.names.Lock.{Lock}
 use Rattle.db_base.specs.declared.names.QueueName.TheVariants as queue
 use Rattle.db_base.specs.declared.wish.Wish.{Wish}
 use Rattle.event_text.specs.declared.event.Event.{Event}
@@ -19,7 +13,6 @@ use Rattle.event_text.specs.declared.event.Event.TheVariants as event
 use Rattle.replay_meaning.specs.Standing.{Posture}
 use Rattle.reply_text.specs.declared.reply.Reply.{Reply}
 use Rattle.reply_text.specs.declared.reply.Reply.TheVariants as reply
-use Rattle.report_types.specs.declared.entry.Entry.{Entry}
 use Rattle.session_facts.specs.Lines.Answers.{IsSoundReply}
 use Rattle.session_facts.specs.Lines.Facts.{session_at, SomeBookStands}
 use Rattle.session_facts.specs.Sessions.Calls.{reply_of}

@@ -1,8 +1,6 @@
 -- What a sweep of a tree leaves, over whatever cloud runs left.
 use Rattle.std.specs.Prelude.{ℕ, ◌≡◌, Some, Result, Ok}
-use Rattle.cloud_trait.specs.Seen.{Seen}
-use Rattle.cloud_trait.specs.State.{CloudState}
-use Rattle.db_base.specs.Ids.{IsTree}
+use Rattle.cloud_facts.specs.Words.{IsTree, CloudState, Seen}
 use Rattle.event_text.specs.declared.event.Event.{Event}
 use Rattle.event_text.specs.declared.event.Event.TheVariants as event
 use Rattle.reply_text.specs.declared.reply.Reply.{Reply}

@@ -3,13 +3,9 @@ use Rattle.std.proofs.Common.{◌≡◌, ◌<◌, ℕ, zero, suc, true, List, []
 use Rattle.std.specs.Prelude.{slice_get, slice_index_or}
 use Rattle.std.specs.List.{Contains}
 use Rattle.byte_format.specs.Order.{bytes_below}
-use Rattle.cloud_trait.specs.State.{CloudState}
-use Rattle.db_base.specs.declared.trouble.Trouble.{Trouble}
+use Rattle.cloud_facts.specs.Words.{Trouble, Leaf, CloudState, Link, IsIn, StandsAt}
 use Rattle.db_base.specs.declared.trouble.Trouble.TheVariants.{Failed, Late, Busy, Waiting, Stale, Absent, NotALeaf, Damaged, BadFence, Loop, Exhausted, Memory}
 use Rattle.leaf_view.specs.Fits.{Ascend}
-use Rattle.leaf_view.specs.Leaf.{Leaf}
-use Rattle.cloud_facts.specs.Book.Book.{Link}
-use Rattle.cloud_facts.specs.Book.Records.{StandsAt, IsIn}
 use Rattle.cloud_facts.specs.Chains.Links.{link_below, page_after, low_after}
 use Rattle.cloud_facts.proofs.Chains.Pieces.{none_in, in_first, in_rest, in_cases, in_back, ascend_all}
 use Rattle.replay_meaning.specs.Chain.{IsReadAs}

@@ -1,15 +1,10 @@
 -- Where the chains of a tree hold and every version decodes, no damage stops a report of it.
 use Rattle.std.proofs.Common.{◌≡◌, ℕ, suc, List, [], ◌∷◌, ◌++◌, length, Some, None, Ok, refl, sym, ap, subst, ◌∙◌, inl, inr}
 use Rattle.std.specs.Prelude.{slice_get}
-use Rattle.cloud_trait.specs.State.{CloudState, newest}
-use Rattle.db_base.specs.Ids.{IsTree}
+use Rattle.cloud_facts.specs.Words.{IsTree, Trouble, Leaf, CloudState, newest, Link, Store, IsIn, StandsAt, nodes_of, roots_of}
 use Rattle.db_base.specs.declared.names.ObjName.TheVariants as object
-use Rattle.db_base.specs.declared.trouble.Trouble.{Trouble}
-use Rattle.leaf_view.specs.Leaf.{Leaf}
-use Rattle.cloud_facts.specs.Book.Book.{Link}
-use Rattle.cloud_facts.specs.Book.Records.{StandsAt, IsIn}
-use Rattle.cloud_facts.specs.Book.Tally.{Tally, Store}
-use Rattle.cloud_facts.specs.Book.Telling.{tally_of, newest_leaf, newest_root, nodes_of, roots_of, gone_of}
+use Rattle.cloud_facts.specs.Book.Tally.{Tally}
+use Rattle.cloud_facts.specs.Book.Telling.{tally_of, newest_leaf, newest_root, gone_of}
 use Rattle.cloud_facts.specs.Chains.Chain.{IsChained, ChainHolds}
 use Rattle.cloud_facts.specs.Chains.Gones.{Gones, AreKept}
 use Rattle.cloud_facts.proofs.Chains.GoneLemmas.{links_kept}

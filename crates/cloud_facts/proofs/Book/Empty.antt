@@ -1,11 +1,8 @@
 -- The store of a cloud in which nothing happened.
 use Rattle.std.proofs.Common.{[], refl}
-use Rattle.cloud_trait.specs.State.{CloudState}
-use Rattle.log_codec.specs.declared.record.AtomicRec.{AtomicRec}
+use Rattle.cloud_facts.specs.Words.{AtomicRec, CloudState, Store, IsIn}
 use Rattle.cloud_facts.proofs.Book.Places.{in_none}
 use Rattle.cloud_facts.specs.Book.Book.{empty_book}
-use Rattle.cloud_facts.specs.Book.Records.{IsIn}
-use Rattle.cloud_facts.specs.Book.Tally.{Store}
 use Rattle.cloud_facts.specs.Book.Telling.{tally_of}
 
 abbrev pub empty_store : CloudState → Store

@@ -8,20 +8,16 @@ use Rattle.cloud_trait.proofs.EffectLemmas.{begins_itself, begins_same, posts_of
 use Rattle.cloud_trait.specs.Growth.{BeginsWith}
 use Rattle.cloud_trait.specs.State.{marked}
 use Rattle.cloud_trait.specs.Upto.{posts_of}
-use Rattle.cloud_trait.specs.declared.state.Posted.{Posted}
+use Rattle.cloud_facts.specs.Words.{IsClient, AtomicRec, Head, Inner, Tree, Posted, Link, Store, Node, at, IsIn}
 use Rattle.db_base.specs.Cursor.{number_of}
-use Rattle.db_base.specs.Ids.{IsClient}
-use Rattle.head_codec.specs.declared.head.Head.{Head}
 use Rattle.leaf_edit.specs.Raised.{greatest_of}
-use Rattle.log_codec.specs.declared.record.AtomicRec.{AtomicRec}
-use Rattle.node_codec.specs.Inner.{Inner}
-use Rattle.node_codec.specs.Tree.{Tree, empty_tree}
-use Rattle.cloud_facts.specs.Book.Book.{Link, with_pieces}
+use Rattle.node_codec.specs.Tree.{empty_tree}
+use Rattle.cloud_facts.specs.Book.Book.{with_pieces}
 use Rattle.cloud_facts.specs.Book.Effects.{after_head, after_logged, after_posted, after_log_mark, after_post_mark, after_leaf, after_page, after_inner, after_root, after_raise, after_removal, Taking, done_after, cursor_after}
 use Rattle.cloud_facts.specs.Book.Growth.{Grows, IsLater}
 use Rattle.cloud_facts.specs.Book.Premises.{CoversApplied}
-use Rattle.cloud_facts.specs.Book.Records.{IsIn, IsApplied, key_in}
-use Rattle.cloud_facts.specs.Book.Tally.{Store, Node, at, at2}
+use Rattle.cloud_facts.specs.Book.Records.{IsApplied, key_in}
+use Rattle.cloud_facts.specs.Book.Tally.{at2}
 use Rattle.cloud_facts.specs.Chains.Links.{top_of}
 use Rattle.cloud_facts.proofs.Book.Names.{at_by, at2_by}
 use Rattle.cloud_facts.proofs.Book.Places.{in_behind}

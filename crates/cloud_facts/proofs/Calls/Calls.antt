@@ -1,19 +1,11 @@
 -- A service call between two told states.
 use Rattle.std.proofs.Common.{◌≡◌, ◌⊎◌, inl, inr, ℕ, List, Option, Some, None, Ok, Err, sym, subst, ◌∙◌, arith}
-use Rattle.db_base.specs.declared.names.ObjName.{ObjName}
-use Rattle.db_base.specs.declared.names.QueueName.{QueueName}
+use Rattle.cloud_facts.specs.Words.{ObjName, QueueName, Answer, CloudState, called, Caller, Seen, Claim, Lasts, Ask, PutHeld, Send, Delete, done_of, sent_of, IsCall}
 use Rattle.db_base.specs.declared.trouble.Trouble.TheVariants as trouble
-use Rattle.cloud_trait.specs.declared.answer.Answer.{Answer}
 use Rattle.cloud_trait.specs.declared.answer.Answer.TheVariants.{Got, Sent, Received, Listed, Done, Given, Held, Renewed, Late, Failed, Memory}
-use Rattle.cloud_trait.specs.Claim.{Claim, Lasts}
-use Rattle.cloud_trait.specs.Views.{done_of, sent_of}
-use Rattle.cloud_trait.specs.Ask.{Ask, PutHeld, Send, Delete, Permits, Lands}
-use Rattle.cloud_trait.specs.Caller.{Caller}
-use Rattle.cloud_trait.specs.Seen.{Seen}
-use Rattle.cloud_trait.specs.State.{CloudState, called}
+use Rattle.cloud_trait.specs.Ask.{Permits, Lands}
 use Rattle.cloud_trait.specs.Weather.{FirstOver, Leaves, Makes}
 use Rattle.cloud_trait.proofs.RowLemmas.{lands_or_not}
-use Rattle.cloud_facts.specs.Calls.Call.{IsCall}
 
 state_is : (s t : CloudState) → Some s ≡ Some t → s ≡ t
 state_is s t e = cc

@@ -1,16 +1,10 @@
 -- The first leaf of a tree, and the newest versions of the pages of its leaf chain.
 use Rattle.std.proofs.Common.{◌≡◌, ℕ, List, refl, arith}
-use Rattle.cloud_trait.specs.State.{CloudState}
-use Rattle.db_base.specs.Ids.{IsTree}
+use Rattle.cloud_facts.specs.Words.{IsTree, Entry, CloudState, Book, Link, Node, Leafy, Branch, IsIn, nodes_of, StandsUnder}
 use Rattle.cloud_facts.specs.Chains.Links.{newest_node, IsOfLevel}
 use Rattle.cloud_facts.proofs.Chains.Newest.{newest_is}
 use Rattle.cloud_facts.specs.Calls.Pages.{IsLeafPage}
-use Rattle.cloud_facts.specs.Calls.Standing.{StandsUnder}
-use Rattle.report_types.specs.declared.entry.Entry.{Entry}
-use Rattle.cloud_facts.specs.Book.Book.{Book, Link}
-use Rattle.cloud_facts.specs.Book.Records.{IsIn}
-use Rattle.cloud_facts.specs.Book.Tally.{Node, Leafy, Branch}
-use Rattle.cloud_facts.specs.Book.Telling.{nodes_of, newest_leaf, leaf_in}
+use Rattle.cloud_facts.specs.Book.Telling.{newest_leaf, leaf_in}
 
 module _ (book : Book) (order : List Entry) (s : CloudState) (stands : StandsUnder book order s) (tree : ℕ) (is : IsTree tree) where
   leafy : (node : Node) → IsOfLevel 0 node → node ≡ Leafy (leaf_in node)

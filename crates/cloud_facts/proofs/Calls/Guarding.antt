@@ -5,14 +5,10 @@ use Rattle.cloud_facts.specs.Chains.Links.{newest_node}
 use Rattle.cloud_facts.specs.Calls.Links.{HasTreeLease, SameLinks, LinksBy, SameGone, GoneBy}
 use Rattle.cloud_facts.specs.Calls.Others.{Passes, Others}
 use Rattle.cloud_facts.specs.Calls.Pages.{IsLeafPage, IsTreePage}
-use Rattle.cloud_facts.specs.Calls.Standing.{StandsUnder}
+use Rattle.cloud_facts.specs.Words.{ObjName, Entry, Leaf, Inner, Version, CloudState, newest, Claim, Lasts, Book, Store, Node, Leafy, Branch, IsIn, nodes_of, store_of, StandsUnder}
 use Rattle.cloud_facts.proofs.Calls.Pages.{some_landed, none_landed}
 use Rattle.cloud_facts.proofs.Calls.Passing.{passes_itself}
-use Rattle.cloud_trait.specs.Claim.{Claim, Lasts}
-use Rattle.cloud_trait.specs.State.{CloudState, newest}
-use Rattle.cloud_trait.specs.declared.state.Version.{Version}
 use Rattle.db_base.specs.declared.names.Lock.TheVariants as lock
-use Rattle.db_base.specs.declared.names.ObjName.{ObjName}
 use Rattle.db_base.specs.declared.names.ObjName.TheVariants as object
 use Rattle.cloud_facts.specs.Decoding.Decodes.{Decodes}
 use Rattle.cloud_facts.specs.Decoding.Kinds.{IsNode, IsRemoval}
@@ -20,17 +16,12 @@ use Rattle.cloud_facts.proofs.Decoding.Reading.{leaf_only, node_spelled}
 use Rattle.cloud_facts.proofs.Decoding.Values.{newest_page_decodes}
 use Rattle.cloud_facts.proofs.Decoding.Versions.{bare_added}
 use Rattle.head_codec.specs.Head.{empty_head}
-use Rattle.leaf_view.specs.Leaf.{Leaf, IsLeaf}
+use Rattle.leaf_view.specs.Leaf.{IsLeaf}
 use Rattle.cloud_facts.specs.Leases.Guards.{guard, guard_of_leaf, guard_of_page, IsRemovedBy, Allowed}
 use Rattle.cloud_facts.specs.Leases.Leases.{Hands, LeasesHold}
 use Rattle.cloud_facts.proofs.Leases.GuardLemmas.{guarded_stays, lasting_apart}
-use Rattle.node_codec.specs.Inner.{Inner, IsInner}
-use Rattle.report_types.specs.declared.entry.Entry.{Entry}
-use Rattle.cloud_facts.specs.Book.Book.{Book}
-use Rattle.cloud_facts.specs.Book.Records.{IsIn}
-use Rattle.cloud_facts.specs.Book.Tally.{Node, Leafy, Branch, Store}
-use Rattle.cloud_facts.specs.Book.Telling.{last_or, head_in, root_in, node_in, node_or, with_bytes, nodes_of, gone_of, leaf_of_bytes}
-use Rattle.cloud_facts.specs.Tellings.Told.{store_of}
+use Rattle.node_codec.specs.Inner.{IsInner}
+use Rattle.cloud_facts.specs.Book.Telling.{last_or, head_in, root_in, node_in, node_or, with_bytes, gone_of, leaf_of_bytes}
 
 -- ---- guards, by what is told
 

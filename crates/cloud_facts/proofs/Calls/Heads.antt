@@ -2,21 +2,13 @@
 use Rattle.std.proofs.Common.{◌≡◌, ◌⊎◌, inl, inr, ℕ, List, [], map, Option, Some, None, Ok, refl, sym, ap, subst, ◌∙◌}
 use Rattle.std.specs.Option.{option_and_then}
 use Rattle.std.specs.Prelude.{unwrap_or}
-use Rattle.cloud_trait.specs.declared.answer.Answer.{Answer}
+use Rattle.cloud_facts.specs.Words.{ObjName, Head, Answer, Version, CloudState, newest, Caller, Claim, GetHeld, got_of, IsCall}
 use Rattle.cloud_trait.specs.declared.answer.Answer.TheVariants.{Got}
-use Rattle.cloud_trait.specs.declared.state.Version.{Version}
-use Rattle.cloud_trait.specs.Ask.{GetHeld}
-use Rattle.cloud_trait.specs.Caller.{Caller}
-use Rattle.cloud_trait.specs.Claim.{Claim}
-use Rattle.cloud_trait.specs.State.{CloudState, newest, newest_of}
-use Rattle.cloud_trait.specs.Views.{got_of}
-use Rattle.db_base.specs.declared.names.ObjName.{ObjName}
+use Rattle.cloud_trait.specs.State.{newest_of}
 use Rattle.cloud_facts.proofs.Decoding.Newest.{IsLast, last_cases, last_map}
 use Rattle.head_codec.specs.Head.{empty_head}
 use Rattle.head_codec.specs.Spelling.{head_of}
-use Rattle.head_codec.specs.declared.head.Head.{Head}
 use Rattle.cloud_facts.specs.Book.Telling.{last_or, head_in}
-use Rattle.cloud_facts.specs.Calls.Call.{IsCall}
 
 -- the head that the newest bytes spell, the empty one where there are none
 abbrev pub head_at : Option (List ℕ) → Head

@@ -1,12 +1,10 @@
 -- A call joins links to a tree, and removes its pages, only where it owes a lease of it.
 use Rattle.std.proofs.Common.{◌≡◌, ◌==◌, ◌⊎◌, inl, inr, ℕ, Bool, true, false, cond, List, [], ◌∷◌, refl, sym, ap, subst, ◌∙◌}
 use Rattle.std.proofs.lemmas.Bool.{eqb-true, eqb-false}
-use Rattle.cloud_trait.specs.Ask.{Ask}
-use Rattle.cloud_trait.specs.Caller.{Caller}
-use Rattle.cloud_trait.specs.Claim.{Claim}
+use Rattle.cloud_facts.specs.Words.{Caller, Claim, Ask, Link, Store}
 use Rattle.cloud_facts.specs.Landings.Landing.{Landing, opens, settles, logs, posts, marks_log, marks_post, puts_leaf, puts_page, puts_inner, puts_root, raises_root, removes, stays}
-use Rattle.cloud_facts.specs.Book.Book.{Link, with_pieces}
-use Rattle.cloud_facts.specs.Book.Tally.{Store, at2}
+use Rattle.cloud_facts.specs.Book.Book.{with_pieces}
+use Rattle.cloud_facts.specs.Book.Tally.{at2}
 use Rattle.cloud_facts.proofs.Book.Names.{at2_by}
 use Rattle.cloud_facts.proofs.Tellings.Names.{at2_other}
 use Rattle.cloud_facts.specs.Calls.Links.{HasTreeLease, LinksBy, GoneBy, OwesLease}

@@ -4,14 +4,9 @@ use Rattle.std.proofs.Math.Nat.{mul-suc, suc-mul}
 use Rattle.std.proofs.lemmas.List.{length-append}
 use Rattle.std.proofs.lemmas.Nat.{mul-le}
 use Rattle.cloud_trait.proofs.EffectLemmas.{effect_trace}
-use Rattle.cloud_trait.specs.Ask.{Ask, Get, GetHeld, PutHeld, ListHeld, RemoveHeld, Send, Receive, Delete, Take, Renew, Release, effect, PutsNothing, TouchesNoMessage}
-use Rattle.cloud_trait.specs.Caller.{Caller}
-use Rattle.cloud_trait.specs.State.{CloudState}
-use Rattle.db_base.specs.Ids.{IsTree}
-use Rattle.log_codec.specs.declared.record.AtomicRec.{AtomicRec}
-use Rattle.node_codec.specs.Tree.{Tree, empty_tree}
-use Rattle.cloud_facts.specs.Book.Records.{IsIn}
-use Rattle.cloud_facts.specs.Book.Tally.{Store}
+use Rattle.cloud_facts.specs.Words.{IsTree, AtomicRec, Tree, CloudState, Caller, Ask, Get, GetHeld, PutHeld, Send, Receive, Delete, Take, Renew, Release, Store, IsIn}
+use Rattle.cloud_trait.specs.Ask.{ListHeld, RemoveHeld, effect, PutsNothing, TouchesNoMessage}
+use Rattle.node_codec.specs.Tree.{empty_tree}
 use Rattle.cloud_facts.specs.Calls.Made.{IsMadeBy}
 use Rattle.cloud_facts.specs.Chains.Landing.{MayReserve}
 use Rattle.cloud_facts.specs.Chains.Links.{top_of}

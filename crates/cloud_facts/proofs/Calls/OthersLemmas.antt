@@ -1,17 +1,14 @@
 -- What is known survives the calls of others.
 use Rattle.std.proofs.Common.{◌≡◌, ◌≤◌, ◌⊎◌, inl, inr, ℕ, zero, List, Option, Some, refl, sym, subst, ◌∙◌, arith}
-use Rattle.cloud_trait.specs.Claim.{Claim}
+use Rattle.cloud_facts.specs.Words.{IsClient, Head, Claim, Store, IsIn}
 use Rattle.cloud_facts.specs.Calls.Acting.{of_option, IsPruned, KnowsHome, Aside}
 use Rattle.cloud_facts.specs.Calls.Others.{Others}
 use Rattle.db_base.specs.Change.{key_of}
-use Rattle.db_base.specs.Ids.{IsClient}
-use Rattle.head_codec.specs.declared.head.Head.{Head}
 use Rattle.head_codec.specs.declared.lists.Pending.{Pending}
 use Rattle.cloud_facts.specs.Homes.Homes.{Part}
 use Rattle.cloud_facts.specs.Book.Growth.{Grows}
 use Rattle.cloud_facts.specs.Book.Premises.{IsAppliedEntry}
-use Rattle.cloud_facts.specs.Book.Records.{IsIn}
-use Rattle.cloud_facts.specs.Book.Tally.{Tally, Store}
+use Rattle.cloud_facts.specs.Book.Tally.{Tally}
 
 pub in_option : (o : Option Claim) (l : Claim) → o ≡ Some l → IsIn (of_option o) l
 in_option o l e = subst (λ (p : Option Claim). IsIn (of_option p) l) (sym e) (zero, refl)

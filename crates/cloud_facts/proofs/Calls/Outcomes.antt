@@ -4,23 +4,19 @@ use Rattle.std.specs.Prelude.{not, ◌&&◌}
 use Rattle.std.specs.Str.{bytes_eq}
 use Rattle.std.proofs.lemmas.Slice.Eq.{bytes_eq-Decides}
 use Rattle.cloud_trait.proofs.StateLemmas.{landed_newest}
-use Rattle.cloud_trait.specs.declared.answer.Answer.{Answer}
-use Rattle.cloud_trait.specs.Ask.{Ask, Get, GetHeld, PutHeld, ListHeld, RemoveHeld, Send, Receive, Delete, Take, Renew, Release, Lands, effect, PutsNothing, TouchesNoMessage}
-use Rattle.cloud_trait.specs.Caller.{Caller}
-use Rattle.cloud_trait.specs.Claim.{Claim}
-use Rattle.cloud_trait.specs.State.{CloudState, called, newest, landed as put}
+use Rattle.cloud_facts.specs.Words.{ObjName, Entry, Answer, CloudState, called, newest, Caller, Claim, Ask, Get, GetHeld, PutHeld, Send, Receive, Delete, Take, Renew, Release, Book, Store, at, IsIn, store_of, IsCall, StandsUnder}
+use Rattle.cloud_trait.specs.Ask.{ListHeld, RemoveHeld, Lands, effect, PutsNothing, TouchesNoMessage}
+use Rattle.cloud_trait.specs.State.{landed as put}
 use Rattle.cloud_facts.specs.Calls.Acting.{Outcome, Handles}
-use Rattle.cloud_facts.specs.Calls.Call.{IsCall}
 use Rattle.cloud_facts.specs.Calls.Links.{LinksBy, GoneBy, OwesLease}
 use Rattle.cloud_trait.specs.Bench.{has_bytes}
 use Rattle.cloud_facts.specs.Calls.Looks.{Newest, has_landed, audited_at, audit_of}
 use Rattle.cloud_facts.specs.Calls.Others.{Passes}
-use Rattle.cloud_facts.specs.Calls.Standing.{StandsUnder, Follows, Commits}
+use Rattle.cloud_facts.specs.Calls.Standing.{Follows, Commits}
 use Rattle.cloud_facts.proofs.Calls.Calls.{landed_or_not}
 use Rattle.cloud_facts.proofs.Calls.LinkLemmas.{landing_links, landing_gone}
 use Rattle.cloud_facts.proofs.Calls.Passing.{landing_passes, passes_itself, commits_join}
 use Rattle.cloud_facts.proofs.Calls.StandingLemmas.{landing_tells, landing_spells, effect_stands, same_stands}
-use Rattle.db_base.specs.declared.names.ObjName.{ObjName}
 use Rattle.cloud_facts.specs.Decoding.Decodes.{IsNext}
 use Rattle.cloud_facts.proofs.Decoding.Values.{next_differs}
 use Rattle.history.specs.Audited.{Audited}
@@ -28,11 +24,6 @@ use Rattle.cloud_facts.specs.Homes.Homes.{Part, Away, Parts, HomesHold}
 use Rattle.cloud_facts.proofs.Homes.HomeLemmas.{away_keeps, part_again}
 use Rattle.cloud_facts.specs.Landings.Landing.{Landing}
 use Rattle.cloud_facts.specs.Landings.Landing as lands_nothing
-use Rattle.report_types.specs.declared.entry.Entry.{Entry}
-use Rattle.cloud_facts.specs.Book.Book.{Book}
-use Rattle.cloud_facts.specs.Book.Records.{IsIn}
-use Rattle.cloud_facts.specs.Book.Tally.{Store, at}
-use Rattle.cloud_facts.specs.Tellings.Told.{store_of}
 use Rattle.cloud_facts.proofs.Tellings.Asks.{told_store}
 
 -- ---- whether a put was seen to land

@@ -1,15 +1,14 @@
 -- The newest versions of pages and roots, by their newest bytes.
 use Rattle.std.proofs.Common.{◌≡◌, ℕ, false, List, [], map, Option, Some, None, refl, ap}
 use Rattle.cloud_facts.specs.Chains.Links.{top_of}
-use Rattle.cloud_trait.specs.State.{CloudState, newest}
-use Rattle.cloud_trait.specs.declared.state.Version.{Version}
+use Rattle.cloud_facts.specs.Words.{Version, CloudState, newest, nodes_of, roots_of}
 use Rattle.db_base.specs.declared.names.ObjName.TheVariants as object
 use Rattle.cloud_facts.specs.Decoding.Decodes.{Decodes}
 use Rattle.cloud_facts.proofs.Book.Places.{get_map, in_none}
 use Rattle.cloud_facts.proofs.Decoding.Newest.{newest_last, never_gone, no_version}
 use Rattle.cloud_facts.proofs.Decoding.Versions.{among_those}
 use Rattle.node_codec.specs.Tree.{empty_tree}
-use Rattle.cloud_facts.specs.Book.Telling.{last_or, node_in, with_bytes, root_in, nodes_of, gone_of, roots_of}
+use Rattle.cloud_facts.specs.Book.Telling.{last_or, node_in, with_bytes, root_in, gone_of}
 
 -- an object without newest bytes that was not removed has no version
 pub none_landed : (s : CloudState) (tree page : ℕ) → Decodes s → gone_of s tree page ≡ false → newest s (object.Page tree page) ≡ None → nodes_of s tree page ≡ []

@@ -1,23 +1,19 @@
 -- What any call that lands leaves for all sessions.
 use Rattle.std.proofs.Common.{◌≡◌, ◌≤◌, ◌<◌, ◌⊎◌, inl, inr, ℕ, List, [], ◌∷◌, refl, sym, subst, ◌∙◌}
-use Rattle.cloud_trait.specs.Ask.{Ask}
-use Rattle.cloud_trait.specs.Caller.{Caller}
+use Rattle.cloud_facts.specs.Words.{AtomicRec, Head, Caller, Ask, Store, IsIn}
 use Rattle.cloud_trait.specs.State.{marked}
-use Rattle.head_codec.specs.declared.head.Head.{Head}
 use Rattle.cloud_facts.specs.Landings.Holding.{Holds}
 use Rattle.cloud_facts.specs.Landings.Landing.{Landing, opens, settles, logs, posts, marks_log, marks_post, puts_leaf, puts_page, puts_inner, puts_root, raises_root, removes, stays, sent_by}
 use Rattle.cloud_facts.proofs.Landings.LandingLemmas.{landing_grows}
 use Rattle.cloud_facts.specs.Lefts.Left.{IsWaiting}
 use Rattle.cloud_facts.proofs.Lefts.MessageLemmas.{waits_more, waits_marked, deleted_more, deleted_marked}
-use Rattle.log_codec.specs.declared.record.AtomicRec.{AtomicRec}
 use Rattle.cloud_facts.specs.Numbers.Numbers.{Numbers}
 use Rattle.route_plan.specs.Record.{pu_record_of}
 use Rattle.cloud_facts.specs.Book.Effects.{after_post_mark}
 use Rattle.cloud_facts.specs.Book.Growth.{Grows}
 use Rattle.cloud_facts.specs.Book.Messages.{Waits, IsMessage, IsDeleted}
 use Rattle.cloud_facts.specs.Book.Premises.{Opens, MarksPost}
-use Rattle.cloud_facts.specs.Book.Records.{IsIn, IsApplied}
-use Rattle.cloud_facts.specs.Book.Tally.{Store}
+use Rattle.cloud_facts.specs.Book.Records.{IsApplied}
 use Rattle.cloud_facts.proofs.Book.GrowthLemmas.{applied_stays, grows_itself}
 use Rattle.cloud_facts.proofs.Book.Names.{at_by, at2_by}
 use Rattle.cloud_facts.proofs.Book.Places.{in_either, in_none}

@@ -3,19 +3,14 @@ use Rattle.std.proofs.Common.{◌≡◌, ◌≢◌, ◌+◌, ◌≤◌, ℕ, Lis
 use Rattle.std.specs.Prelude.{slice_get}
 use Rattle.std.proofs.lemmas.List.{length-map}
 use Rattle.std.proofs.lemmas.List.Sums.{length-filter, count_by-le-length}
-use Rattle.cloud_trait.specs.State.{CloudState}
+use Rattle.cloud_facts.specs.Words.{ObjName, QueueName, Version, Posted, CloudState, Link, IsIn, nodes_of, roots_of}
 use Rattle.cloud_trait.specs.Traced.{IsTraced, is_object, is_queue, object_rows, queue_rows, version_rows, post_rows}
 use Rattle.cloud_trait.specs.declared.state.Landing.{Landing}
-use Rattle.cloud_trait.specs.declared.state.Posted.{Posted}
 use Rattle.cloud_trait.specs.declared.state.Site.{Site}
 use Rattle.cloud_trait.specs.declared.state.Site.TheVariants.{Object}
-use Rattle.cloud_trait.specs.declared.state.Version.{Version}
-use Rattle.db_base.specs.declared.names.ObjName.{ObjName}
 use Rattle.db_base.specs.declared.names.ObjName.TheVariants as object
-use Rattle.db_base.specs.declared.names.QueueName.{QueueName}
-use Rattle.cloud_facts.specs.Book.Book.{Link}
-use Rattle.cloud_facts.specs.Book.Records.{IsIn, Apart}
-use Rattle.cloud_facts.specs.Book.Telling.{node_in, with_bytes, newest_root, nodes_of, roots_of}
+use Rattle.cloud_facts.specs.Book.Records.{Apart}
+use Rattle.cloud_facts.specs.Book.Telling.{node_in, with_bytes, newest_root}
 use Rattle.cloud_facts.specs.Chains.Chain.{IsChained}
 use Rattle.cloud_facts.proofs.Book.Lengths.{apart_fits, image}
 use Rattle.cloud_facts.proofs.Book.Places.{get_map}

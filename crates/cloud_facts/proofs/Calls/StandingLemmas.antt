@@ -1,12 +1,11 @@
 -- Every call that lands keeps what holds of a cloud.
 use Rattle.std.proofs.Common.{◌≡◌, false, ℕ, List, [], length, map, Option, Some, None, refl, sym, ap, subst, ◌∙◌, Bool, arith}
-use Rattle.db_base.specs.Ids.{IsTree}
+use Rattle.cloud_facts.specs.Words.{IsTree, Entry, Inner, CloudState, newest, Caller, Ask, Get, GetHeld, PutHeld, Send, Receive, Delete, Take, Renew, Release, Book, Link, Store, Node, Leafy, Branch, nodes_of, roots_of, store_of, StandsUnder}
 use Rattle.db_base.specs.declared.names.ObjName.TheVariants as object
 use Rattle.db_base.specs.declared.names.QueueName.TheVariants.{TreePu}
 use Rattle.cloud_trait.proofs.TracedLemmas.{effect_traced, empty_traced}
-use Rattle.cloud_trait.specs.Ask.{Ask, Get, GetHeld, PutHeld, ListHeld, RemoveHeld, Send, Receive, Delete, Take, Renew, Release, effect, PutsNothing, TouchesNoMessage}
-use Rattle.cloud_trait.specs.Caller.{Caller}
-use Rattle.cloud_trait.specs.State.{CloudState, IsEmptyCloud, newest, landed as put}
+use Rattle.cloud_trait.specs.Ask.{ListHeld, RemoveHeld, effect, PutsNothing, TouchesNoMessage}
+use Rattle.cloud_trait.specs.State.{IsEmptyCloud, landed as put}
 use Rattle.cloud_trait.specs.declared.state.Landing.{Landing as Row}
 use Rattle.cloud_facts.specs.Chains.Chain.{ChainHolds}
 use Rattle.cloud_facts.specs.Chains.Gones.{Gones}
@@ -14,7 +13,7 @@ use Rattle.cloud_facts.proofs.Chains.GoneLemmas.{links_kept, absent_kept}
 use Rattle.cloud_facts.specs.Chains.Landing.{LandsLeaf, LandsInner}
 use Rattle.cloud_facts.proofs.Calls.Pages.{none_landed}
 use Rattle.cloud_facts.specs.Calls.Made.{IsMadeBy}
-use Rattle.cloud_facts.specs.Calls.Standing.{StandsUnder, IsTaken, Follows}
+use Rattle.cloud_facts.specs.Calls.Standing.{IsTaken, Follows}
 use Rattle.cloud_facts.proofs.Book.Places.{in_none}
 use Rattle.cloud_facts.proofs.Calls.Making.{IsWithin, landing_made, rows_many}
 use Rattle.cloud_facts.proofs.Calls.Rows.{links_within, messages_within, same_traced}
@@ -28,15 +27,12 @@ use Rattle.cloud_facts.specs.Landings.Landing.{Landing, opens, settles, logs, po
 use Rattle.cloud_facts.specs.Landings.Landing.{Spells as SpellsNode}
 use Rattle.cloud_facts.proofs.Landings.LandingLemmas.{landing_keeps, empty_holds, opens_later, settles_later}
 use Rattle.leaf_view.specs.Leaf.{IsLeaf}
-use Rattle.report_types.specs.declared.entry.Entry.{Entry}
-use Rattle.node_codec.specs.Inner.{Inner}
-use Rattle.cloud_facts.specs.Book.Book.{Book, Link, empty_book}
+use Rattle.cloud_facts.specs.Book.Book.{empty_book}
 use Rattle.cloud_facts.specs.Book.Effects.{Taking, after_leaf, after_page}
 use Rattle.cloud_facts.specs.Book.Premises.{Takes, LandsFirst, Removes}
 use Rattle.cloud_facts.specs.Landings.Landing.{own_of}
-use Rattle.cloud_facts.specs.Book.Tally.{Node, Leafy, Branch, Store}
-use Rattle.cloud_facts.specs.Book.Telling.{root_in, nodes_of, gone_of, roots_of, tally_of}
-use Rattle.cloud_facts.specs.Tellings.Told.{store_of, Tells}
+use Rattle.cloud_facts.specs.Book.Telling.{root_in, gone_of, tally_of}
+use Rattle.cloud_facts.specs.Tellings.Told.{Tells}
 use Rattle.cloud_facts.proofs.Tellings.Asks.{quiet_tells, told_by}
 use Rattle.cloud_facts.proofs.Tellings.Easy.{head_told, logged_told, posted_told, log_mark_told, post_mark_told, removal_told, same_told}
 use Rattle.cloud_facts.proofs.Tellings.Laws.{taken_tells, taken_next, inner_tells, page_tells, raise_tells}

@@ -2,13 +2,10 @@
 use Rattle.std.proofs.Common.{◌≡◌, ◌+◌, ◌<◌, ◌≤◌, ℕ, List, ◌∷◌, map, length, slice_get}
 use Rattle.std.specs.List.{AllByRecursion}
 use Rattle.node_codec.specs.Inner.{node_of_root}
-use Rattle.node_codec.specs.Tree.{Tree}
+use Rattle.cloud_facts.specs.Words.{Tree, Link, Store, Node, StandsAt}
 use Rattle.split_plan.specs.Cut.{IsCut}
 use Rattle.split_plan.specs.Part.{Part, NodePart, part_of_node, entry_key}
 use Rattle.split_plan.specs.Plan.{on_pages, entry_of, child_of}
-use Rattle.cloud_facts.specs.Book.Book.{Link}
-use Rattle.cloud_facts.specs.Book.Records.{StandsAt}
-use Rattle.cloud_facts.specs.Book.Tally.{Node, Store}
 use Rattle.cloud_facts.specs.Chains.Cuts.{HaveLanded, AreFree, HasHigh, inner_node}
 use Rattle.cloud_facts.specs.Chains.Links.{top_of, EndsBefore, NodeNames}
 

@@ -2,14 +2,11 @@
 use Rattle.std.proofs.Common.{◌≡◌, ◌+◌, ℕ, zero, suc, List, [], ◌∷◌, map, None, refl, sym, ap, subst, ◌∙◌, Bool, true, false, cond, arith}
 use Rattle.std.specs.Prelude.{slice_get, ◌==◌}
 use Rattle.std.proofs.lemmas.Bool.{eqb-true, eq-eqb}
-use Rattle.cloud_trait.specs.State.{CloudState, IsEmptyCloud}
-use Rattle.cloud_trait.specs.declared.state.Version.{Version}
+use Rattle.cloud_facts.specs.Words.{Tree, Version, CloudState, Link, Node, IsIn, StandsAt, nodes_of, roots_of}
+use Rattle.cloud_trait.specs.State.{IsEmptyCloud}
 use Rattle.db_base.specs.declared.names.ObjName.TheVariants as object
-use Rattle.node_codec.specs.Tree.{Tree}
-use Rattle.cloud_facts.specs.Book.Book.{Link, empty_book, first_leaf}
-use Rattle.cloud_facts.specs.Book.Records.{StandsAt, IsIn}
-use Rattle.cloud_facts.specs.Book.Tally.{Node}
-use Rattle.cloud_facts.specs.Book.Telling.{tally_of, node_in, with_bytes, root_in, nodes_of, roots_of}
+use Rattle.cloud_facts.specs.Book.Book.{empty_book, first_leaf}
+use Rattle.cloud_facts.specs.Book.Telling.{tally_of, node_in, with_bytes, root_in}
 use Rattle.cloud_facts.specs.Chains.Chain.{AreLevels, IsChained, ChainHolds}
 use Rattle.cloud_facts.specs.Chains.Links.{Ascends, first_link, page_after, low_after}
 use Rattle.cloud_facts.proofs.Chains.Names.{in_single}

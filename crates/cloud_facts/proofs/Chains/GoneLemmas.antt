@@ -1,16 +1,13 @@
 -- What was removed is in no chain, whatever lands.
 use Rattle.std.proofs.Common.{◌≡◌, ◌⊎◌, inl, inr, ℕ, Bool, true, false, List, [], ◌∷◌, ◌++◌, refl, sym, ap, ◌∙◌}
-use Rattle.cloud_trait.specs.State.{CloudState, IsEmptyCloud}
-use Rattle.cloud_trait.specs.declared.state.Version.{Version}
+use Rattle.cloud_facts.specs.Words.{Inner, Tree, Version, CloudState, Link, Store, Node, IsIn}
+use Rattle.cloud_trait.specs.State.{IsEmptyCloud}
 use Rattle.db_base.specs.declared.names.ObjName.TheVariants as object
-use Rattle.node_codec.specs.Inner.{Inner}
-use Rattle.node_codec.specs.Tree.{Tree}
-use Rattle.cloud_facts.specs.Book.Book.{Link, with_pieces}
+use Rattle.cloud_facts.specs.Book.Book.{with_pieces}
 use Rattle.cloud_facts.specs.Book.Effects.{Taking, after_leaf, after_page, after_inner, after_raise, after_removal}
 use Rattle.cloud_facts.specs.Book.Growth.{Grows}
 use Rattle.cloud_facts.specs.Book.Premises.{Removes, AreThere}
-use Rattle.cloud_facts.specs.Book.Records.{IsIn}
-use Rattle.cloud_facts.specs.Book.Tally.{Node, Store, at2}
+use Rattle.cloud_facts.specs.Book.Tally.{at2}
 use Rattle.cloud_facts.specs.Book.Telling.{is_gone}
 use Rattle.cloud_facts.specs.Chains.Gones.{Gones, AreKept}
 use Rattle.cloud_facts.proofs.Book.Empty.{empty_store}

@@ -1,14 +1,10 @@
 -- What other sessions may rely on: each call that lands on the chains only adds to what is told.
 use Rattle.std.proofs.Common.{◌≡◌, ◌≤◌, ℕ, List, [], arith}
-use Rattle.db_base.specs.Ids.{IsClient, IsTree}
-use Rattle.node_codec.specs.Inner.{Inner}
-use Rattle.node_codec.specs.Tree.{Tree}
+use Rattle.cloud_facts.specs.Words.{IsClient, IsTree, Inner, Tree, Link, Store, Node}
 use Rattle.cloud_facts.proofs.Book.GrowthLemmas.{leaf_grows, page_grows, inner_grows, raise_grows}
-use Rattle.cloud_facts.specs.Book.Book.{Link}
 use Rattle.cloud_facts.specs.Book.Effects.{Taking, after_leaf, after_page, after_inner, after_raise}
 use Rattle.cloud_facts.specs.Book.Growth.{Grows}
 use Rattle.cloud_facts.specs.Book.Premises.{CoversApplied}
-use Rattle.cloud_facts.specs.Book.Tally.{Node, Store}
 use Rattle.cloud_facts.specs.Chains.Chain.{ChainHolds}
 use Rattle.cloud_facts.specs.Chains.Landing.{LandsLeaf, LandsInner, LandsNew, Raises}
 

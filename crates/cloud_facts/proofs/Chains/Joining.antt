@@ -2,14 +2,12 @@
 use Rattle.std.proofs.Common.{◌≡◌, ◌≢◌, ◌+◌, ◌<◌, ◌≤◌, ℕ, suc, List, [], ◌∷◌, ◌++◌, length, Option, Some, None, refl, sym, ap, subst, ◌∙◌, ◌⊎◌, inl, inr, Bool, true, false, cond}
 use Rattle.std.specs.Prelude.{slice_get, ◌==◌}
 use Rattle.byte_format.specs.Order.{bytes_below}
-use Rattle.db_base.specs.Ids.{IsClient}
+use Rattle.cloud_facts.specs.Words.{IsClient, Tree, Link, Node, Leafy, at, IsIn, StandsAt}
 use Rattle.leaf_view.specs.Fits.{Ascend}
 use Rattle.leaf_view.specs.Lookup.{empty_leaf}
-use Rattle.node_codec.specs.Tree.{Tree}
 use Rattle.cloud_facts.proofs.Book.GrowthLemmas.{links_stay as level_stays}
-use Rattle.cloud_facts.specs.Book.Book.{Link, with_pieces}
-use Rattle.cloud_facts.specs.Book.Records.{StandsAt, IsIn}
-use Rattle.cloud_facts.specs.Book.Tally.{Node, Leafy, at, low_of}
+use Rattle.cloud_facts.specs.Book.Book.{with_pieces}
+use Rattle.cloud_facts.specs.Book.Tally.{low_of}
 use Rattle.cloud_facts.specs.Book.Telling.{last_or}
 use Rattle.cloud_facts.specs.Chains.Chain.{AreLevels, IsVersionOf, AreVersions, AreEntries, AreNewest, ArePages, IsCovered, AreCovered, IsChained}
 use Rattle.cloud_facts.specs.Chains.Landing.{ArePieces, AreNew, LandsOn, first_or}

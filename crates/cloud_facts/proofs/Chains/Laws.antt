@@ -2,18 +2,12 @@
 use Rattle.std.proofs.Common.{◌≡◌, ◌≢◌, ◌≤◌, ℕ, max, List, [], ◌∷◌, ◌++◌, refl, sym, subst, Bool, true, false, arith}
 use Rattle.std.specs.Prelude.{◌==◌, ◌&&◌, if◌then◌else◌}
 use Rattle.std.proofs.lemmas.Bool.{eqb-true, cond_both}
-use Rattle.cloud_trait.specs.declared.state.Posted.{Posted}
+use Rattle.cloud_facts.specs.Words.{IsClient, IsTree, AtomicRec, Head, Inner, Tree, Posted, Link, Store, Node, Leafy, Branch, at}
 use Rattle.db_base.specs.Cursor.{number_of}
-use Rattle.db_base.specs.Ids.{IsClient, IsTree}
-use Rattle.head_codec.specs.declared.head.Head.{Head}
 use Rattle.leaf_edit.specs.Raised.{greatest_of}
-use Rattle.log_codec.specs.declared.record.AtomicRec.{AtomicRec}
-use Rattle.node_codec.specs.Inner.{Inner}
-use Rattle.node_codec.specs.Tree.{Tree}
-use Rattle.cloud_facts.specs.Book.Book.{Link, with_pieces}
+use Rattle.cloud_facts.specs.Book.Book.{with_pieces}
 use Rattle.cloud_facts.specs.Book.Effects.{Taking, done_after, cursor_after, after_head, after_logged, after_posted, after_log_mark, after_post_mark, after_leaf, after_page, after_inner, after_root, after_raise, after_removal}
 use Rattle.cloud_facts.specs.Book.Premises.{Takes, LandsFirst, CoversApplied}
-use Rattle.cloud_facts.specs.Book.Tally.{Node, Leafy, Branch, Store, at}
 use Rattle.cloud_facts.specs.Chains.Chain.{IsChained, ChainHolds}
 use Rattle.cloud_facts.specs.Chains.Landing.{LandsLeaf, LandsInner, LandsNew, LandsRoot, Raises}
 use Rattle.cloud_facts.specs.Chains.Links.{top_of}

@@ -4,14 +4,12 @@ use Rattle.std.specs.Prelude.{slice_get, ◌==◌, ◌&&◌}
 use Rattle.std.proofs.lemmas.Bool.{and_parts, not-true, cond_both, true_from_ne_false}
 use Rattle.byte_format.specs.Order.{bytes_below, below_bound}
 use Rattle.leaf_edit.specs.Raised.{greatest_of}
-use Rattle.leaf_view.specs.Leaf.{Leaf}
+use Rattle.cloud_facts.specs.Words.{Leaf, Link, Store, Node, Leafy, Branch, IsIn, StandsAt}
 use Rattle.leaf_view.specs.Lookup.{holds}
 use Rattle.node_codec.proofs.EntryLemmas.{below_chain}
-use Rattle.cloud_facts.specs.Book.Book.{Link}
 use Rattle.cloud_facts.specs.Book.Effects.{Taking, done_after}
 use Rattle.cloud_facts.specs.Book.Premises.{Ranges, Takes}
-use Rattle.cloud_facts.specs.Book.Records.{StandsAt, IsIn}
-use Rattle.cloud_facts.specs.Book.Tally.{Node, Leafy, Branch, Store, low_of, high_of}
+use Rattle.cloud_facts.specs.Book.Tally.{low_of, high_of}
 use Rattle.cloud_facts.specs.Chains.Chain.{AreLevels, IsCovered}
 use Rattle.cloud_facts.specs.Chains.Landing.{IsPiece, ArePieces, LandsOn, LandsLeaf, first_or}
 use Rattle.cloud_facts.specs.Chains.Links.{low_after}

@@ -1,11 +1,9 @@
 -- What is known of links stays where links join; versions that end where the next link begins.
 use Rattle.std.proofs.Common.{◌≡◌, ◌+◌, ◌≤◌, ℕ, suc, List, [], ◌∷◌, Option, Some, None, refl, sym, subst, ◌⊎◌, inl, inr, arith}
 use Rattle.std.specs.Prelude.{slice_get}
-use Rattle.db_base.specs.Ids.{IsClient}
+use Rattle.cloud_facts.specs.Words.{IsClient, Link, Node, Leafy, Branch, IsIn, StandsAt}
 use Rattle.node_codec.specs.Node.{Entry}
-use Rattle.cloud_facts.specs.Book.Book.{Link}
-use Rattle.cloud_facts.specs.Book.Records.{StandsAt, IsIn}
-use Rattle.cloud_facts.specs.Book.Tally.{Node, Leafy, Branch, low_of}
+use Rattle.cloud_facts.specs.Book.Tally.{low_of}
 use Rattle.cloud_facts.specs.Chains.Chain.{NamesRight, IsVersionOf, IsCovered}
 use Rattle.cloud_facts.specs.Chains.Landing.{IsPiece, ArePieces, first_or}
 use Rattle.cloud_facts.specs.Chains.Links.{Ascends, IsOfLevel, EndsBefore, NamesBelow, NodeNames}

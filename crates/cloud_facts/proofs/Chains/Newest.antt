@@ -2,9 +2,8 @@
 use Rattle.std.proofs.Common.{◌≡◌, ◌≢◌, ◌-◌, ℕ, zero, suc, List, [], ◌∷◌, length, slice_get, refl, sym, ap, subst, arith}
 use Rattle.std.specs.Prelude.{unwrap_or}
 use Rattle.leaf_view.specs.Lookup.{empty_leaf}
-use Rattle.cloud_facts.specs.Book.Book.{Link}
-use Rattle.cloud_facts.specs.Book.Records.{IsIn}
-use Rattle.cloud_facts.specs.Book.Tally.{Node, Leafy, low_of}
+use Rattle.cloud_facts.specs.Words.{Link, Node, Leafy, IsIn}
+use Rattle.cloud_facts.specs.Book.Tally.{low_of}
 use Rattle.cloud_facts.specs.Book.Telling.{last_or}
 use Rattle.cloud_facts.specs.Chains.Chain.{AreLevels, AreVersions, AreNewest}
 use Rattle.cloud_facts.specs.Chains.Links.{first_link, newest_node, IsOfLevel}

@@ -7,9 +7,8 @@ use Rattle.std.specs.Ordering.{is_lt}
 use Rattle.byte_format.specs.Order.{bytes_below}
 use Rattle.leaf_view.specs.Fits.{Ascend}
 use Rattle.node_codec.proofs.EntryLemmas.{below_chain}
-use Rattle.cloud_facts.specs.Book.Book.{Link, with_pieces}
-use Rattle.cloud_facts.specs.Book.Records.{StandsAt, IsIn}
-use Rattle.cloud_facts.specs.Book.Tally.{Node}
+use Rattle.cloud_facts.specs.Words.{Link, Node, IsIn, StandsAt}
+use Rattle.cloud_facts.specs.Book.Book.{with_pieces}
 use Rattle.cloud_facts.specs.Chains.Landing.{IsPiece, ArePieces, first_or}
 use Rattle.cloud_facts.specs.Chains.Links.{link_below}
 

@@ -2,12 +2,10 @@
 use Rattle.std.proofs.Common.{◌≡◌, ◌≢◌, ◌+◌, ◌-◌, ◌<◌, ◌≤◌, ℕ, zero, suc, List, [], ◌∷◌, ◌++◌, length, Option, None, refl, sym, ap, subst, ◌∙◌, ◌⊎◌, inl, inr, arith}
 use Rattle.std.specs.Prelude.{slice_get}
 use Rattle.db_base.specs.Cursor.{number_of}
-use Rattle.db_base.specs.Ids.{IsClient}
+use Rattle.cloud_facts.specs.Words.{IsClient, Tree, Link, Node, Leafy, at, IsIn, StandsAt}
 use Rattle.leaf_view.specs.Lookup.{empty_leaf}
-use Rattle.node_codec.specs.Tree.{Tree, empty_tree}
-use Rattle.cloud_facts.specs.Book.Book.{Link}
-use Rattle.cloud_facts.specs.Book.Records.{StandsAt, IsIn}
-use Rattle.cloud_facts.specs.Book.Tally.{Node, Leafy, at, low_of}
+use Rattle.node_codec.specs.Tree.{empty_tree}
+use Rattle.cloud_facts.specs.Book.Tally.{low_of}
 use Rattle.cloud_facts.specs.Book.Telling.{last_or}
 use Rattle.cloud_facts.specs.Chains.Chain.{IsUnlinked, AreLevels, IsVersionOf, AreVersions, AreEntries, AreNewest, ArePages, IsCovered, AreCovered, IsChained}
 use Rattle.cloud_facts.specs.Chains.Landing.{IsPiece, ArePieces, AreNew, first_or}

@@ -3,8 +3,7 @@ use Rattle.std.proofs.Common.{◌≡◌, ◌≢◌, ◌+◌, ◌≤◌, ◌⊎�
 use Rattle.std.proofs.lemmas.Bool.{cases_eq}
 use Rattle.std.specs.Prelude.{slice_get}
 use Rattle.cloud_facts.specs.Copies.Copies.{IsSentOn, WayBefore, Copies}
-use Rattle.head_codec.specs.declared.head.Head.{Head}
-use Rattle.log_codec.specs.declared.record.AtomicRec.{AtomicRec}
+use Rattle.cloud_facts.specs.Words.{AtomicRec, Head, Store, IsIn, StandsAt}
 use Rattle.log_codec.specs.declared.record.PuRec.{PuRec}
 use Rattle.cloud_facts.proofs.Numbers.Queues.{number_within}
 use Rattle.cloud_facts.proofs.Numbers.Ways.{is_way, settled_way, way_epoch, way_txn, upto_earlier}
@@ -12,8 +11,7 @@ use Rattle.cloud_facts.specs.Numbers.Numbers.{Numbers, IsUpto}
 use Rattle.route_plan.specs.Record.{pu_record_of}
 use Rattle.cloud_facts.specs.Book.Effects.{after_head}
 use Rattle.cloud_facts.specs.Book.Premises.{Opens, Settles}
-use Rattle.cloud_facts.specs.Book.Records.{StandsAt, IsIn, count_of}
-use Rattle.cloud_facts.specs.Book.Tally.{Store}
+use Rattle.cloud_facts.specs.Book.Records.{count_of}
 use Rattle.cloud_facts.proofs.Book.Names.{at_same, at_other}
 use Rattle.cloud_facts.proofs.Book.Places.{get_cases, in_none}
 

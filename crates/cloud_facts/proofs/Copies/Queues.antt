@@ -2,14 +2,12 @@
 use Rattle.std.proofs.Common.{◌≡◌, ◌+◌, ◌<◌, ◌≤◌, ◌⊎◌, inl, inr, ℕ, Bool, true, false, List, [], ◌∷◌, ◌++◌, length, Some, refl, sym, ap, subst, ◌∙◌, arith}
 use Rattle.std.proofs.lemmas.Bool.{cases_eq}
 use Rattle.std.specs.Prelude.{slice_get}
-use Rattle.db_base.specs.Ids.{IsClient}
+use Rattle.cloud_facts.specs.Words.{IsClient, AtomicRec, Posted, Store, IsIn}
 use Rattle.cloud_trait.specs.State.{marked}
-use Rattle.cloud_trait.specs.declared.state.Posted.{Posted}
 use Rattle.cloud_facts.specs.Copies.Copies.{IsCopy, IsFirst, HasBefore, IsSentOn, WayBefore, Copies, PastIsSent}
 use Rattle.cloud_facts.proofs.Copies.CopyLemmas.{copy_of_sent, copy_front, before_front, IsNew, new_cases, before_marked, copy_marked, copy_unmarked, sent_unmarked, sent_more, sent_marked}
 use Rattle.cloud_facts.proofs.Copies.Order.{Ordered, order_of_filter}
 use Rattle.log_codec.specs.Pu.{pu_of}
-use Rattle.log_codec.specs.declared.record.AtomicRec.{AtomicRec}
 use Rattle.log_codec.specs.declared.record.PuRec.{PuRec}
 use Rattle.cloud_facts.specs.Numbers.Numbers.{Numbers}
 use Rattle.cloud_facts.proofs.Numbers.Known.{record_is, has_number}
@@ -18,8 +16,8 @@ use Rattle.route_plan.specs.Record.{pu_record_of}
 use Rattle.cloud_facts.specs.Book.Effects.{after_logged, after_posted, after_log_mark, after_post_mark}
 use Rattle.cloud_facts.specs.Book.Messages.{HasCopy}
 use Rattle.cloud_facts.specs.Book.Premises.{Posts, MarksPost}
-use Rattle.cloud_facts.specs.Book.Records.{IsIn, IsUnderWay, IsPast, is_under_way, is_of_queue, count_of}
-use Rattle.cloud_facts.specs.Book.Tally.{Tally, Store}
+use Rattle.cloud_facts.specs.Book.Records.{IsUnderWay, IsPast, is_under_way, is_of_queue, count_of}
+use Rattle.cloud_facts.specs.Book.Tally.{Tally}
 use Rattle.cloud_facts.proofs.Book.Names.{at2_by}
 use Rattle.cloud_facts.proofs.Book.Places.{marked_other}
 

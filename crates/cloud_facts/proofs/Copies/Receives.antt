@@ -1,15 +1,13 @@
 -- What a receive finds: among the first so many messages that are not deleted, each client's numbers above the cursor are one run.
 use Rattle.std.proofs.Common.{◌≡◌, ◌+◌, ◌<◌, ◌≤◌, ℕ, zero, suc, Bool, true, false, cond, List, [], ◌∷◌, take, Some, refl, sym, ap, ◌∙◌, arith}
 use Rattle.std.specs.Prelude.{slice_get}
-use Rattle.db_base.specs.Ids.{IsClient}
+use Rattle.cloud_facts.specs.Words.{IsClient, Posted, Store}
 use Rattle.cloud_trait.specs.Delivery.{unmarked, unmarked_from}
 use Rattle.cloud_trait.specs.declared.message.Message.{Message}
-use Rattle.cloud_trait.specs.declared.state.Posted.{Posted}
 use Rattle.cloud_facts.specs.Copies.Copies.{IsCopy, Copies, IsAmong}
 use Rattle.cloud_facts.proofs.Copies.Runs.{Stays, run_stays}
 use Rattle.log_codec.specs.Pu.{pu_of}
 use Rattle.cloud_facts.proofs.Numbers.Lists.{take_there}
-use Rattle.cloud_facts.specs.Book.Tally.{Store}
 
 -- ---- the messages that are not deleted
 

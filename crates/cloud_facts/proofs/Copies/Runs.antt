@@ -1,10 +1,8 @@
 -- What settling rests on: above its cursor a queue has each client's numbers as one run, in order, each first copy not deleted.
 use Rattle.std.proofs.Common.{◌≡◌, ◌+◌, ◌-◌, ◌<◌, ◌≤◌, ℕ, zero, suc, false, List, arith}
-use Rattle.db_base.specs.Ids.{IsClient}
-use Rattle.cloud_trait.specs.declared.state.Posted.{Posted}
+use Rattle.cloud_facts.specs.Words.{IsClient, Posted, Store}
 use Rattle.cloud_facts.specs.Copies.Copies.{IsCopy, IsFirst, Copies}
 use Rattle.cloud_facts.proofs.Copies.CopyLemmas.{copy_at_number, first_of}
-use Rattle.cloud_facts.specs.Book.Tally.{Store}
 
 -- a copy up to a place
 pub record HasUpto (posts : List Posted) (client number place : ℕ) : Type 0 where

@@ -1,21 +1,18 @@
 -- Leaves, other pages and roots keep what holds of the copies: cursors only rise.
 use Rattle.std.proofs.Common.{◌+◌, ◌≤◌, ℕ, List, refl, arith}
-use Rattle.db_base.specs.Ids.{IsClient}
-use Rattle.cloud_trait.specs.State.{CloudState, IsEmptyCloud}
+use Rattle.cloud_facts.specs.Words.{IsClient, Inner, Tree, CloudState, Link, Store, Node}
+use Rattle.cloud_trait.specs.State.{IsEmptyCloud}
 use Rattle.cloud_facts.specs.Copies.Copies.{IsCopy, Copies}
 use Rattle.cloud_facts.specs.Numbers.Numbers.{Numbers}
 use Rattle.cloud_facts.proofs.Numbers.Known.{cursor_unlinked}
-use Rattle.node_codec.specs.Inner.{Inner}
-use Rattle.node_codec.specs.Tree.{Tree}
 use Rattle.cloud_facts.proofs.Book.Empty.{empty_store}
 use Rattle.cloud_facts.proofs.Book.GrowthLemmas.{leaf_grows, cursor_grows}
 use Rattle.cloud_facts.proofs.Book.Names.{at2_by}
 use Rattle.cloud_facts.proofs.Book.Places.{in_none}
-use Rattle.cloud_facts.specs.Book.Book.{Link, empty_book}
+use Rattle.cloud_facts.specs.Book.Book.{empty_book}
 use Rattle.cloud_facts.specs.Book.Effects.{Taking, after_leaf, after_page, after_inner, after_root, after_raise, after_removal}
 use Rattle.cloud_facts.specs.Book.Growth.{Grows}
 use Rattle.cloud_facts.specs.Book.Premises.{Takes, LandsFirst, CoversApplied}
-use Rattle.cloud_facts.specs.Book.Tally.{Store, Node}
 use Rattle.cloud_facts.specs.Book.Telling.{tally_of, queue_of}
 
 -- ---- leaves

@@ -4,17 +4,14 @@ use Rattle.std.proofs.lemmas.Bool.{and_parts, and_from, eqb-true, eq-eqb, cases_
 use Rattle.std.proofs.lemmas.List.Sorted.{list_any-IsPermutation, IsPermutation-sym}
 use Rattle.std.specs.List.{list_any}
 use Rattle.std.specs.Prelude.{slice_get, IsPermutation}
-use Rattle.db_base.specs.Ids.{IsClient}
+use Rattle.cloud_facts.specs.Words.{IsClient, PuItem, Store, IsIn}
 use Rattle.cloud_trait.specs.Delivery.{unmarked, IsDelivering}
 use Rattle.cloud_trait.specs.declared.message.Message.{Message}
 use Rattle.cloud_facts.specs.Copies.Copies.{Copies, IsAmong, AreItems}
 use Rattle.cloud_facts.proofs.Copies.Receives.{received_is_run}
 use Rattle.log_codec.specs.Pu.{pu_of}
-use Rattle.log_codec.specs.declared.record.PuItem.{PuItem}
 use Rattle.log_codec.specs.declared.record.PuRec.{PuRec}
 use Rattle.run_cursor.specs.Run.{is_at, has_number, IsTop}
-use Rattle.cloud_facts.specs.Book.Records.{IsIn}
-use Rattle.cloud_facts.specs.Book.Tally.{Store}
 
 -- ---- tests that something of a list passes
 

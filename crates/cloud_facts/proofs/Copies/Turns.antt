@@ -3,12 +3,10 @@ use Rattle.std.proofs.Common.{◌≡◌, ◌+◌, ◌<◌, ℕ, true, ◌==◌, 
 use Rattle.std.proofs.lemmas.Bool.{and_from, eq-eqb}
 use Rattle.cloud_facts.specs.Copies.Copies.{IsSentOn, SendsInTurn}
 use Rattle.cloud_facts.proofs.Copies.Order.{Ordered, filter_order}
-use Rattle.log_codec.specs.declared.record.AtomicRec.{AtomicRec}
+use Rattle.cloud_facts.specs.Words.{IsClient, AtomicRec, Store, IsIn, StandsAt}
 use Rattle.cloud_facts.proofs.Numbers.Ways.{is_way, settled_way}
-use Rattle.cloud_facts.specs.Book.Records.{StandsAt, IsIn, IsUnderWay, is_under_way, under_way}
-use Rattle.cloud_facts.specs.Book.Tally.{Store}
+use Rattle.cloud_facts.specs.Book.Records.{IsUnderWay, is_under_way, under_way}
 use Rattle.cloud_facts.specs.Lefts.Left.{Leaves}
-use Rattle.db_base.specs.Ids.{IsClient}
 use Rattle.head_codec.specs.declared.head.Phase.{Phase}
 use Rattle.head_codec.specs.declared.head.Phase.TheVariants.{Settled, Open}
 

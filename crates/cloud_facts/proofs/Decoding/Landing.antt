@@ -2,19 +2,14 @@
 use Rattle.std.proofs.Common.{◌≡◌, ◌+◌, ◌-◌, ◌<◌, ℕ, List, [], ◌∷◌, ◌++◌, length, Some, None, refl, sym, ap, subst, ◌∙◌, ◌⊎◌, inl, inr, arith, false}
 use Rattle.std.specs.Prelude.{slice_get}
 use Rattle.std.proofs.lemmas.List.{length-append}
-use Rattle.db_base.specs.declared.names.ObjName.{ObjName}
+use Rattle.cloud_facts.specs.Words.{ObjName, QueueName, Version, Posted, CloudState, newest, Caller, Ask, Get, GetHeld, PutHeld, Send, Receive, Delete, Take, Renew, Release, StandsAt}
 use Rattle.db_base.specs.declared.names.ObjName.TheVariants as object
-use Rattle.db_base.specs.declared.names.QueueName.{QueueName}
-use Rattle.cloud_trait.specs.declared.state.Posted.{Posted}
-use Rattle.cloud_trait.specs.declared.state.Version.{Version}
-use Rattle.cloud_trait.specs.Ask.{Ask, Get, GetHeld, PutHeld, ListHeld, RemoveHeld, Send, Receive, Delete, Take, Renew, Release, effect, PutsNothing, TouchesNoMessage}
-use Rattle.cloud_trait.specs.Caller.{Caller}
+use Rattle.cloud_trait.specs.Ask.{ListHeld, RemoveHeld, effect, PutsNothing, TouchesNoMessage}
 use Rattle.cloud_trait.specs.Names.{object_cmp, queue_cmp}
-use Rattle.cloud_trait.specs.State.{CloudState, IsEmptyCloud, newest, landed, removed, sent, deleted, marked}
+use Rattle.cloud_trait.specs.State.{IsEmptyCloud, landed, removed, sent, deleted, marked}
 use Rattle.cloud_trait.proofs.EffectLemmas.{effect_versions, effect_messages}
 use Rattle.cloud_trait.proofs.NameLemmas.{object_cmp-equal, queue_cmp-equal}
 use Rattle.cloud_trait.proofs.StateLemmas.{put_at_by}
-use Rattle.cloud_facts.specs.Book.Records.{StandsAt}
 use Rattle.cloud_facts.specs.Book.Telling.{is_gone}
 use Rattle.cloud_facts.proofs.Book.Places.{get_cases, get_single, get_within, marked_bytes}
 use Rattle.cloud_facts.specs.Decoding.Decodes.{Decodes, IsNext, Spells}

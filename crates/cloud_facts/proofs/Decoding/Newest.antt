@@ -4,10 +4,7 @@ use Rattle.std.specs.Option.{option_map, option_and_then}
 use Rattle.std.specs.Prelude.{slice_get, unwrap_or, is_none}
 use Rattle.std.proofs.lemmas.List.{length-map}
 use Rattle.cloud_trait.specs.State.{newest_of, version_at, message_at}
-use Rattle.cloud_trait.specs.declared.state.Posted.{Posted}
-use Rattle.cloud_trait.specs.declared.state.Version.{Version}
-use Rattle.db_base.specs.declared.names.ObjName.{ObjName}
-use Rattle.cloud_facts.specs.Book.Records.{StandsAt}
+use Rattle.cloud_facts.specs.Words.{ObjName, Version, Posted, StandsAt}
 use Rattle.cloud_facts.specs.Book.Telling.{last_or, is_bare, is_gone}
 use Rattle.cloud_facts.specs.Decoding.Kinds.{HasNth, IsRemoval, IsLastRemoval, AreOfKind}
 use Rattle.cloud_facts.proofs.Book.Places.{get_map}

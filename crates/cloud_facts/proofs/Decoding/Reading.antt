@@ -5,16 +5,14 @@ use Rattle.std.specs.Prelude.{unwrap_or}
 use Rattle.std.specs.Result.{result_ok}
 use Rattle.byte_format.specs.Format.{mark_at}
 use Rattle.byte_format.proofs.Wholes.{whole_only}
-use Rattle.cloud_trait.specs.declared.state.Version.{Version}
-use Rattle.head_codec.specs.declared.head.Head.{Head}
+use Rattle.cloud_facts.specs.Words.{Head, Leaf, Inner, Tree, Version, Node, Leafy, Branch}
 use Rattle.head_codec.specs.Head.{empty_head}
 use Rattle.head_codec.specs.Spelling.{head_of}
-use Rattle.leaf_view.specs.Leaf.{Leaf, leaf, leaf_head, IsLeaf}
+use Rattle.leaf_view.specs.Leaf.{leaf, leaf_head, IsLeaf}
 use Rattle.leaf_view.proofs.Exact.{leaf_exact}
-use Rattle.node_codec.specs.Inner.{Inner, IsInner}
-use Rattle.node_codec.specs.Tree.{Tree, empty_tree, tree_of, IsTree}
+use Rattle.node_codec.specs.Inner.{IsInner}
+use Rattle.node_codec.specs.Tree.{empty_tree, tree_of, IsTree}
 use Rattle.node_codec.proofs.SpellingLaws.{tree_only, inner_only}
-use Rattle.cloud_facts.specs.Book.Tally.{Node, Leafy, Branch}
 use Rattle.cloud_facts.specs.Book.Telling.{head_in, root_in, node_in, node_of_bytes, node_or, branch_or, leaf_of_bytes}
 use Rattle.cloud_facts.specs.Decoding.Kinds.{IsNode}
 

@@ -1,28 +1,23 @@
 -- What a call must put or send, by its value; and what follows of what is newest.
 use Rattle.std.proofs.Common.{◌≡◌, ◌+◌, ◌-◌, false, ℕ, zero, suc, List, [], ◌∷◌, length, map, Some, None, refl, sym, ap, subst, ◌∙◌, ◌⊎◌, inl, inr, arith}
-use Rattle.db_base.specs.declared.names.ObjName.{ObjName}
+use Rattle.cloud_facts.specs.Words.{ObjName, QueueName, AtomicRec, Head, Leaf, Inner, Tree, Version, CloudState, newest, Node, Leafy, Branch, IsIn, StandsAt, nodes_of, roots_of}
 use Rattle.db_base.specs.declared.names.ObjName.TheVariants as object
-use Rattle.db_base.specs.declared.names.QueueName.{QueueName}
 use Rattle.db_base.specs.declared.names.QueueName.TheVariants.{Atomic}
-use Rattle.cloud_trait.specs.State.{CloudState, newest, version_at, message_at}
-use Rattle.cloud_trait.specs.declared.state.Version.{Version}
+use Rattle.cloud_trait.specs.State.{version_at, message_at}
 use Rattle.head_codec.specs.Head.{empty_head}
 use Rattle.head_codec.specs.Spelling.{head_of}
-use Rattle.head_codec.specs.declared.head.Head.{Head}
 use Rattle.head_codec.specs.declared.head.Phase.{Phase}
 use Rattle.head_codec.specs.declared.head.Phase.TheVariants.{Settled, Open}
-use Rattle.leaf_view.specs.Leaf.{Leaf, IsLeaf}
+use Rattle.leaf_view.specs.Leaf.{IsLeaf}
 use Rattle.leaf_view.specs.Lookup.{empty_leaf}
 use Rattle.log_codec.specs.Atomic.{atomic_of}
 use Rattle.log_codec.specs.Pu.{pu_of}
-use Rattle.log_codec.specs.declared.record.AtomicRec.{AtomicRec}
 use Rattle.log_codec.specs.declared.record.PuRec.{PuRec}
-use Rattle.node_codec.specs.Inner.{Inner, IsInner}
-use Rattle.node_codec.specs.Tree.{Tree, IsTree, empty_tree}
+use Rattle.node_codec.specs.Inner.{IsInner}
+use Rattle.node_codec.specs.Tree.{IsTree, empty_tree}
 use Rattle.cloud_facts.specs.Book.Growth.{IsLater, PhaseRises}
-use Rattle.cloud_facts.specs.Book.Records.{StandsAt, IsIn}
-use Rattle.cloud_facts.specs.Book.Tally.{Node, Leafy, Branch, version_of}
-use Rattle.cloud_facts.specs.Book.Telling.{last_or, head_in, root_in, node_in, with_bytes, nodes_of, gone_of, roots_of, newest_root, queue_of}
+use Rattle.cloud_facts.specs.Book.Tally.{version_of}
+use Rattle.cloud_facts.specs.Book.Telling.{last_or, head_in, root_in, node_in, with_bytes, gone_of, newest_root, queue_of}
 use Rattle.cloud_facts.proofs.Book.Places.{get_map}
 use Rattle.cloud_facts.specs.Decoding.Decodes.{Decodes, IsNext}
 use Rattle.cloud_facts.specs.Decoding.Kinds.{IsNode, IsNth, HasNth, IsLastRemoval, AreOfKind, CountsWithin, IsSameMoment, MovesOn, IsMessageOf}

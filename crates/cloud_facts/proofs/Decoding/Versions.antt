@@ -3,14 +3,9 @@ use Rattle.std.proofs.Common.{◌≡◌, ◌+◌, ◌-◌, ◌<◌, ◌⊎◌, i
 use Rattle.std.specs.Prelude.{is_some}
 use Rattle.std.proofs.lemmas.List.{append-nil}
 use Rattle.std.proofs.lemmas.List.Elements.{filter-append}
-use Rattle.cloud_trait.specs.Caller.{Caller}
-use Rattle.cloud_trait.specs.State.{CloudState}
-use Rattle.cloud_trait.specs.declared.state.Version.{Version}
-use Rattle.db_base.specs.declared.names.ObjName.{ObjName}
+use Rattle.cloud_facts.specs.Words.{ObjName, Version, CloudState, Caller, Node, IsIn, StandsAt, nodes_of}
 use Rattle.db_base.specs.declared.names.ObjName.TheVariants as object
-use Rattle.cloud_facts.specs.Book.Records.{StandsAt, IsIn}
-use Rattle.cloud_facts.specs.Book.Tally.{Node}
-use Rattle.cloud_facts.specs.Book.Telling.{is_bare, is_gone, with_bytes, node_in, nodes_of, gone_of}
+use Rattle.cloud_facts.specs.Book.Telling.{is_bare, is_gone, with_bytes, node_in, gone_of}
 use Rattle.cloud_facts.proofs.Book.Lengths.{image}
 use Rattle.cloud_facts.proofs.Book.Places.{get_map, get_within, in_none}
 use Rattle.cloud_facts.specs.Decoding.Decodes.{Decodes}

@@ -1,21 +1,16 @@
 -- What each step of a session leaves of all open clients and openings.
 use Rattle.std.proofs.Common.{◌≡◌, ◌≢◌, ◌+◌, ◌<◌, ◌≤◌, ◌⊎◌, inl, inr, ℕ, List, [], Some, refl, sym, ap, subst, ◌∙◌, arith, ◌∷◌, ◌++◌, length}
 use Rattle.std.proofs.lemmas.Bool.{cases_eq}
-use Rattle.db_base.specs.Ids.{IsClient}
-use Rattle.cloud_trait.specs.Claim.{Claim, Lasts}
-use Rattle.cloud_trait.specs.declared.state.Posted.{Posted}
-use Rattle.head_codec.specs.declared.head.Head.{Head}
+use Rattle.cloud_facts.specs.Words.{IsClient, AtomicRec, Head, Posted, Claim, Lasts, Store, at, IsIn}
 use Rattle.cloud_facts.specs.Homes.Homes.{Home, Opening, Part, Away, AtHome, Opens, Parts, IsLastingPart, IsAlone, HomeHolds, OpeningHolds, PartHolds, AreApart, HomesHold, IsSpared}
 use Rattle.cloud_trait.specs.State.{marked}
 use Rattle.cloud_facts.proofs.Lefts.MessageLemmas.{IsLast, log_cases, log_marked, logged_more, logged_marked}
 use Rattle.log_codec.specs.Atomic.{atomic_of}
-use Rattle.log_codec.specs.declared.record.AtomicRec.{AtomicRec}
 use Rattle.cloud_facts.specs.Book.Effects.{after_head, after_logged, after_log_mark}
 use Rattle.cloud_facts.specs.Book.Messages.{IsLogMessage, WaitsLogged}
-use Rattle.cloud_facts.specs.Book.Records.{IsIn}
 use Rattle.cloud_facts.proofs.Book.Places.{get_behind, get_single, in_front, in_behind, in_either, in_none}
 use Rattle.cloud_facts.specs.Book.Premises.{Logs}
-use Rattle.cloud_facts.specs.Book.Tally.{Tally, Store, at}
+use Rattle.cloud_facts.specs.Book.Tally.{Tally}
 use Rattle.cloud_facts.proofs.Book.Names.{at_same, at_other, at_by}
 
 -- one part, one open client; one text, one record

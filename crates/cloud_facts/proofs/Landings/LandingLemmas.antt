@@ -2,8 +2,7 @@
 use Rattle.std.proofs.Common.{◌≡◌, ◌<◌, ◌⊎◌, inl, inr, ℕ, true, false, List, [], Some, sym, ap, ◌∙◌, arith}
 use Rattle.std.proofs.lemmas.Bool.{cases_order}
 use Rattle.std.specs.Prelude.{slice_get}
-use Rattle.cloud_trait.specs.Ask.{Ask}
-use Rattle.cloud_trait.specs.Caller.{Caller}
+use Rattle.cloud_facts.specs.Words.{IsTree, AtomicRec, Head, Tree, CloudState, Caller, Ask, Link, Store, IsIn}
 use Rattle.cloud_facts.specs.Chains.Chain.{ChainHolds}
 use Rattle.cloud_facts.proofs.Chains.Grown.{after_leaf_grows, after_inner_grows, after_page_grows, after_raise_grows}
 use Rattle.cloud_facts.proofs.Chains.GoneLemmas as gone
@@ -13,12 +12,8 @@ use Rattle.cloud_facts.specs.Chains.Landing.{Raises}
 use Rattle.cloud_facts.proofs.Copies.Heads as copy_heads
 use Rattle.cloud_facts.proofs.Copies.Queues as copy_queues
 use Rattle.cloud_facts.proofs.Copies.Stays as copies
-use Rattle.cloud_trait.specs.State.{CloudState, IsEmptyCloud}
-use Rattle.db_base.specs.Ids.{IsTree}
-use Rattle.node_codec.specs.Tree.{Tree}
-use Rattle.cloud_facts.specs.Book.Book.{Link}
+use Rattle.cloud_trait.specs.State.{IsEmptyCloud}
 use Rattle.cloud_facts.proofs.Book.Empty.{empty_store}
-use Rattle.head_codec.specs.declared.head.Head.{Head}
 use Rattle.head_codec.specs.declared.head.Phase.{Phase}
 use Rattle.head_codec.specs.declared.head.Phase.TheVariants.{Settled, Open}
 use Rattle.cloud_facts.specs.Landings.Holding.{Holds}
@@ -27,7 +22,6 @@ use Rattle.cloud_facts.proofs.Lefts.HeadLemmas as left_opens
 use Rattle.cloud_facts.proofs.Lefts.SettlesLemmas as left_settles
 use Rattle.cloud_facts.proofs.Lefts.QueueLemmas as left_queues
 use Rattle.cloud_facts.proofs.Lefts.StaysLemmas as left
-use Rattle.log_codec.specs.declared.record.AtomicRec.{AtomicRec}
 use Rattle.cloud_facts.proofs.Numbers.Kept as numbers
 use Rattle.cloud_facts.proofs.Numbers.Known.{cursor_unlinked}
 use Rattle.cloud_facts.proofs.Orders.Kept as order
@@ -38,8 +32,7 @@ use Rattle.cloud_facts.proofs.Pendings.StaysLemmas as pending
 use Rattle.cloud_facts.specs.Pendings.Pending.{Pends, AreOfKey}
 use Rattle.cloud_facts.specs.Book.Growth.{Grows, IsLater, PhaseRises}
 use Rattle.cloud_facts.specs.Book.Premises.{Opens, SettlesBehind}
-use Rattle.cloud_facts.specs.Book.Records.{IsIn, is_open, IsApplied}
-use Rattle.cloud_facts.specs.Book.Tally.{Store}
+use Rattle.cloud_facts.specs.Book.Records.{is_open, IsApplied}
 use Rattle.cloud_facts.proofs.Book.GrowthLemmas.{grows_itself, head_grows, logged_grows, posted_grows, log_mark_grows, post_mark_grows, root_grows, removal_grows}
 
 record_is : (r q : AtomicRec) → Some r ≡ Some q → r ≡ q

@@ -1,8 +1,7 @@
 -- What holds of a store makes its reports right, and an earlier report's order is where a later one begins.
 use Rattle.std.proofs.Common.{ℕ, ◌==◌, ap, ◌∙◌}
 use Rattle.std.proofs.lemmas.List.Elements.{filter-append}
-use Rattle.cloud_trait.specs.Ask.{Ask}
-use Rattle.cloud_trait.specs.Caller.{Caller}
+use Rattle.cloud_facts.specs.Words.{Entry, Caller, Ask, Store}
 use Rattle.cloud_trait.specs.Growth.{BeginsWith}
 use Rattle.history.specs.Fold.{of_tree}
 use Rattle.cloud_facts.specs.Landings.Holding.{Holds}
@@ -11,8 +10,6 @@ use Rattle.cloud_facts.specs.Landings.Reporting.{IsReportable}
 use Rattle.cloud_facts.proofs.Landings.LandingLemmas.{landing_grows}
 use Rattle.cloud_facts.proofs.Lefts.StaysLemmas.{all_applied}
 use Rattle.cloud_facts.proofs.Orders.Legality.{order_is_legal, value_is, order_holds_all}
-use Rattle.report_types.specs.declared.entry.Entry.{Entry}
-use Rattle.cloud_facts.specs.Book.Tally.{Store}
 
 pub reportable : (st : Store) → Holds st → (tree : ℕ) → IsReportable st tree
 reportable st h tree = record {

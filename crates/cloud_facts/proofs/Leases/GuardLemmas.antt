@@ -2,17 +2,12 @@
 use Rattle.std.proofs.Common.{◌≡◌, ◌≢◌, ◌+◌, ◌≤◌, ◌⊎◌, inl, inr, ℕ, Bool, true, false, cond, nat_lt, ◌==◌, List, Option, Some, None, refl, sym, ap, subst, ◌∙◌, arith, IfSome}
 use Rattle.std.specs.Prelude.{IsSomeAnd}
 use Rattle.std.proofs.lemmas.Bool.{eqb-true, and_parts}
-use Rattle.db_base.specs.declared.names.Lock.{Lock}
-use Rattle.db_base.specs.declared.names.ObjName.{ObjName}
+use Rattle.cloud_facts.specs.Words.{ObjName, Lock, Answer, Version, CloudState, called, Caller, Claim, Lasts, Ask, Get, GetHeld, PutHeld, Send, Receive, Delete, Take, Renew, Release}
 use Rattle.db_base.specs.declared.names.ObjName.TheVariants as object
-use Rattle.cloud_trait.specs.declared.answer.Answer.{Answer}
 use Rattle.cloud_trait.specs.declared.state.Hold.{Hold}
-use Rattle.cloud_trait.specs.declared.state.Version.{Version}
-use Rattle.cloud_trait.specs.Ask.{Ask, Get, GetHeld, PutHeld, ListHeld, RemoveHeld, Send, Receive, Delete, Take, Renew, Release, Lands, Permits, effect}
-use Rattle.cloud_trait.specs.Caller.{Caller}
-use Rattle.cloud_trait.specs.Claim.{Claim, Lasts}
+use Rattle.cloud_trait.specs.Ask.{ListHeld, RemoveHeld, Lands, Permits, effect}
 use Rattle.cloud_trait.specs.Names.{lock_cmp, object_cmp}
-use Rattle.cloud_trait.specs.State.{CloudState, Counts, end_after, called, is_current, moved, released, landed, held_so}
+use Rattle.cloud_trait.specs.State.{Counts, end_after, is_current, moved, released, landed, held_so}
 use Rattle.cloud_trait.specs.Weather.{Leaves}
 use Rattle.cloud_trait.proofs.EffectLemmas.{effect_rest, effect_versions}
 use Rattle.cloud_trait.proofs.NameLemmas.{lock_cmp-equal, object_cmp-equal}

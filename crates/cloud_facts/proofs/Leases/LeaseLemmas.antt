@@ -2,15 +2,13 @@
 use Rattle.std.proofs.Common.{◌≡◌, ◌≢◌, ◌+◌, ◌<◌, ◌≤◌, ◌⊎◌, inl, inr, ℕ, Bool, true, false, cond, nat_lt, ◌==◌, [], Option, Some, refl, sym, ap, subst, ◌∙◌, arith}
 use Rattle.std.proofs.lemmas.Bool.{cases_eq, lt-ltb, eq-eqb, and_from, ltb-true}
 use Rattle.std.specs.Prelude.{slice_get}
-use Rattle.db_base.specs.declared.names.Lock.{Lock}
-use Rattle.cloud_trait.specs.declared.answer.Answer.{Answer}
+use Rattle.cloud_facts.specs.Words.{Lock, Answer, CloudState, called, Caller, Claim, Lasts, Ask, Get, GetHeld, PutHeld, Send, Receive, Delete, Take, Renew, Release}
 use Rattle.cloud_trait.specs.declared.answer.Answer.TheVariants as answer
 use Rattle.cloud_trait.specs.declared.state.Hold.{Hold}
-use Rattle.cloud_trait.specs.Ask.{Ask, Get, GetHeld, PutHeld, ListHeld, RemoveHeld, Send, Receive, Delete, Take, Renew, Release, Lands}
-use Rattle.cloud_trait.specs.Caller.{Caller}
-use Rattle.cloud_trait.specs.Claim.{Claim, Lasts, extended}
+use Rattle.cloud_trait.specs.Ask.{ListHeld, RemoveHeld, Lands}
+use Rattle.cloud_trait.specs.Claim.{extended}
 use Rattle.cloud_trait.specs.Names.{lock_cmp}
-use Rattle.cloud_trait.specs.State.{CloudState, Counts, put_at, end_after, lease_given, called, is_current, moved, released, held_so}
+use Rattle.cloud_trait.specs.State.{Counts, put_at, end_after, lease_given, is_current, moved, released, held_so}
 use Rattle.cloud_trait.specs.Weather.{Weather, Leaves, RenewsBoth}
 use Rattle.cloud_trait.proofs.EffectLemmas.{effect_rest}
 use Rattle.cloud_trait.proofs.NameLemmas.{lock_cmp-equal, lock_cmp-total}

@@ -1,22 +1,20 @@
 -- A head that lands keeps what holds of the messages.
 use Rattle.std.proofs.Common.{◌≡◌, ◌≢◌, ◌≤◌, ◌⊎◌, inl, inr, ℕ, Bool, true, false, List, ◌++◌, length, refl, sym, ap, subst, ◌∙◌, arith}
 use Rattle.std.proofs.lemmas.Bool.{cases_eq}
-use Rattle.db_base.specs.Ids.{IsClient}
-use Rattle.head_codec.specs.declared.head.Head.{Head}
+use Rattle.cloud_facts.specs.Words.{IsClient, AtomicRec, Head, Store, IsIn, StandsAt}
 use Rattle.head_codec.specs.declared.head.Phase.{Phase}
 use Rattle.head_codec.specs.declared.head.Phase.TheVariants.{Settled, Open}
 use Rattle.cloud_facts.specs.Lefts.Left.{IsCopied, IsWaiting, WasLogged, HasWay, AreLogged, Leaves}
 use Rattle.cloud_facts.proofs.Lefts.MessageLemmas.{message_of_logged}
 use Rattle.cloud_facts.proofs.Lefts.Holding.{LogHolds, log_of, logged_of, WayHolds, way_of, has_way}
 use Rattle.cloud_facts.proofs.Lefts.Ways.{ways_other, ways_opened}
-use Rattle.log_codec.specs.declared.record.AtomicRec.{AtomicRec}
 use Rattle.cloud_facts.specs.Numbers.Numbers.{Numbers}
 use Rattle.cloud_facts.proofs.Numbers.Ways.{is_way, settled_way, open_way}
 use Rattle.cloud_facts.specs.Book.Effects.{after_head}
 use Rattle.cloud_facts.specs.Book.Messages.{WaitsLogged, IsLogMessage}
 use Rattle.cloud_facts.specs.Book.Premises.{Opens}
-use Rattle.cloud_facts.specs.Book.Records.{StandsAt, IsIn, IsApplied, IsUnderWay, IsPast, under_way, key_in, count_of}
-use Rattle.cloud_facts.specs.Book.Tally.{Tally, Store}
+use Rattle.cloud_facts.specs.Book.Records.{IsApplied, IsUnderWay, IsPast, under_way, key_in, count_of}
+use Rattle.cloud_facts.specs.Book.Tally.{Tally}
 use Rattle.cloud_facts.proofs.Book.Names.{at_same, at_other}
 use Rattle.cloud_facts.proofs.Book.Places.{in_either, in_front, in_behind}
 

@@ -1,11 +1,9 @@
 -- What holds of a client's ATOMIC messages, by the messages, the head and the log themselves.
 use Rattle.std.proofs.Common.{◌≡◌, ◌≤◌, ℕ, List, length}
-use Rattle.cloud_trait.specs.declared.state.Posted.{Posted}
+use Rattle.cloud_facts.specs.Words.{AtomicRec, Posted, Store, IsIn, StandsAt}
 use Rattle.cloud_facts.specs.Lefts.Left.{IsWayAt, HasWay, AreLogged}
-use Rattle.log_codec.specs.declared.record.AtomicRec.{AtomicRec}
 use Rattle.cloud_facts.specs.Book.Messages.{IsLogMessage}
-use Rattle.cloud_facts.specs.Book.Records.{StandsAt, IsIn, under_way}
-use Rattle.cloud_facts.specs.Book.Tally.{Store}
+use Rattle.cloud_facts.specs.Book.Records.{under_way}
 
 pub record LogHolds (logged : List Posted) (epoch : ℕ) (log : List AtomicRec) (client : ℕ) : Type 0 where
   pub own : (id : ℕ) (r : AtomicRec) → IsLogMessage logged id r → r.client ≡ client

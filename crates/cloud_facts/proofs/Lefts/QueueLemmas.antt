@@ -1,22 +1,19 @@
 -- What is sent and marked keeps what holds of the messages.
 use Rattle.std.proofs.Common.{◌≡◌, ◌≤◌, ◌⊎◌, inl, inr, ℕ, true, List, [], ◌∷◌, ◌++◌, Some, refl, sym, ap, subst, ◌∙◌}
-use Rattle.db_base.specs.Ids.{IsClient}
+use Rattle.cloud_facts.specs.Words.{IsClient, AtomicRec, Posted, Store, at, IsIn}
 use Rattle.cloud_trait.specs.State.{marked}
-use Rattle.cloud_trait.specs.declared.state.Posted.{Posted}
 use Rattle.head_codec.specs.declared.head.Phase.TheVariants.{Open}
 use Rattle.cloud_facts.specs.Lefts.Left.{IsCopied, IsWaiting, WasLogged, Leaves}
 use Rattle.cloud_facts.proofs.Lefts.Holding.{LogHolds, log_of, logged_of, WayHolds, way_of, has_way}
 use Rattle.cloud_facts.proofs.Lefts.Ways.{of_ways}
 use Rattle.cloud_facts.proofs.Lefts.MessageLemmas.{copy_more, waits_more, logged_more, IsLast, log_cases, copy_marked, waits_marked, logged_marked, log_marked, log_message_more, log_message_marked}
-use Rattle.log_codec.specs.declared.record.AtomicRec.{AtomicRec}
 use Rattle.cloud_facts.specs.Numbers.Numbers.{Numbers}
 use Rattle.cloud_facts.proofs.Numbers.Ways.{is_way, way_epoch, way_txn}
 use Rattle.route_plan.specs.Record.{pu_record_of}
 use Rattle.cloud_facts.specs.Book.Effects.{after_logged, after_posted, after_log_mark, after_post_mark}
 use Rattle.cloud_facts.specs.Book.Messages.{HasCopy, Waits, WaitsLogged, IsMessage, IsLogMessage}
 use Rattle.cloud_facts.specs.Book.Premises.{Logs, MarksPost, MarksLog}
-use Rattle.cloud_facts.specs.Book.Records.{IsIn, IsApplied, IsUnderWay, is_open, under_way}
-use Rattle.cloud_facts.specs.Book.Tally.{Store, at}
+use Rattle.cloud_facts.specs.Book.Records.{IsApplied, IsUnderWay, is_open, under_way}
 use Rattle.cloud_facts.proofs.Book.Names.{at_by, at2_by}
 
 -- ---- a record is sent to an ATOMIC queue

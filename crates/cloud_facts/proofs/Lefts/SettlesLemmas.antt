@@ -1,21 +1,19 @@
 -- A head that settles keeps what holds of the messages: what was under way was sent.
 use Rattle.std.proofs.Common.{◌≡◌, ◌≢◌, ◌≤◌, ◌⊎◌, inl, inr, ℕ, Bool, true, false, List, [], ◌++◌, refl, sym, ap, subst, ◌∙◌, arith}
 use Rattle.std.proofs.lemmas.Bool.{cases_eq}
-use Rattle.db_base.specs.Ids.{IsClient}
-use Rattle.head_codec.specs.declared.head.Head.{Head}
+use Rattle.cloud_facts.specs.Words.{IsClient, AtomicRec, Head, Store, IsIn, StandsAt}
 use Rattle.head_codec.specs.declared.head.Phase.TheVariants.{Settled, Open}
 use Rattle.cloud_facts.specs.Lefts.Left.{IsCopied, IsWaiting, HasWay, AreLogged, Leaves}
 use Rattle.cloud_facts.proofs.Lefts.Holding.{LogHolds, log_of, logged_of, WayHolds, way_of, has_way}
 use Rattle.cloud_facts.proofs.Lefts.HeadLemmas.{past_other, way_other}
 use Rattle.cloud_facts.proofs.Lefts.MessageLemmas.{copy_of_message}
 use Rattle.cloud_facts.proofs.Lefts.Ways.{ways_other}
-use Rattle.log_codec.specs.declared.record.AtomicRec.{AtomicRec}
 use Rattle.cloud_facts.proofs.Numbers.Ways.{is_way}
 use Rattle.route_plan.specs.Record.{pu_record_of}
 use Rattle.cloud_facts.specs.Book.Effects.{after_head}
 use Rattle.cloud_facts.specs.Book.Premises.{Settles, SettlesBehind}
-use Rattle.cloud_facts.specs.Book.Records.{StandsAt, IsIn, IsApplied, IsUnderWay, IsPast}
-use Rattle.cloud_facts.specs.Book.Tally.{Tally, Store}
+use Rattle.cloud_facts.specs.Book.Records.{IsApplied, IsUnderWay, IsPast}
+use Rattle.cloud_facts.specs.Book.Tally.{Tally}
 use Rattle.cloud_facts.proofs.Book.Names.{at_same, at_other}
 use Rattle.cloud_facts.proofs.Book.Places.{in_either, in_front, in_none}
 

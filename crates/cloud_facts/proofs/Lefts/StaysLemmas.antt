@@ -3,27 +3,22 @@ use Rattle.std.proofs.Common.{◌≡◌, ◌⊎◌, inl, inr, ℕ, List, [], ◌
 use Rattle.std.specs.Prelude.{slice_get}
 use Rattle.db_base.specs.declared.names.ObjName.TheVariants as object
 use Rattle.db_base.specs.declared.names.QueueName.TheVariants.{Atomic}
-use Rattle.cloud_trait.specs.State.{CloudState, IsEmptyCloud}
-use Rattle.cloud_trait.specs.declared.state.Posted.{Posted}
+use Rattle.cloud_facts.specs.Words.{AtomicRec, Head, Inner, Tree, Posted, CloudState, Link, Store, Node, IsIn}
+use Rattle.cloud_trait.specs.State.{IsEmptyCloud}
 use Rattle.head_codec.specs.Head.{empty_head}
-use Rattle.head_codec.specs.declared.head.Head.{Head}
 use Rattle.head_codec.specs.declared.head.Phase.TheVariants.{Settled, Open}
 use Rattle.cloud_facts.specs.Lefts.Left.{IsCopied, IsWaiting, Leaves, NothingLeft}
 use Rattle.cloud_facts.proofs.Lefts.Holding.{log_of, logged_of, way_of, has_way}
-use Rattle.log_codec.specs.declared.record.AtomicRec.{AtomicRec}
-use Rattle.node_codec.specs.Inner.{Inner}
-use Rattle.node_codec.specs.Tree.{Tree}
 use Rattle.cloud_facts.specs.Numbers.Numbers.{Numbers}
 use Rattle.cloud_facts.proofs.Numbers.Known.{IsOfRun, newly_applied}
 use Rattle.cloud_facts.proofs.Book.Empty.{empty_store, no_records}
 use Rattle.route_plan.specs.Record.{pu_record_of}
-use Rattle.cloud_facts.specs.Book.Book.{Link, empty_book}
+use Rattle.cloud_facts.specs.Book.Book.{empty_book}
 use Rattle.cloud_facts.specs.Book.Effects.{Taking, after_leaf, after_page, after_inner, after_root, after_raise, after_removal}
 use Rattle.cloud_facts.specs.Book.Growth.{Grows}
 use Rattle.cloud_facts.specs.Book.Messages.{HasCopy, Waits, IsLogMessage}
 use Rattle.cloud_facts.specs.Book.Premises.{Takes}
-use Rattle.cloud_facts.specs.Book.Records.{IsIn, IsApplied, IsUnderWay, IsPast}
-use Rattle.cloud_facts.specs.Book.Tally.{Store, Node}
+use Rattle.cloud_facts.specs.Book.Records.{IsApplied, IsUnderWay, IsPast}
 use Rattle.cloud_facts.specs.Book.Telling.{tally_of, last_or, head_in}
 use Rattle.cloud_facts.proofs.Book.GrowthLemmas.{applied_stays, leaf_grows}
 

@@ -3,15 +3,14 @@ use Rattle.std.proofs.Common.{◌≡◌, ℕ, suc, Bool, true, false, cond, ◌=
 use Rattle.std.specs.Prelude.{slice_get}
 use Rattle.std.proofs.lemmas.Bool.{and_parts, and_from, eqb-true, eq-eqb}
 use Rattle.std.proofs.lemmas.List.Elements.{filter-append}
-use Rattle.head_codec.specs.declared.head.Head.{Head}
-use Rattle.log_codec.specs.declared.record.AtomicRec.{AtomicRec}
+use Rattle.cloud_facts.specs.Words.{AtomicRec, Head, Store, IsIn, StandsAt}
 use Rattle.cloud_facts.proofs.Numbers.Lists.{filter_there, filter_none, filter_agree}
 use Rattle.cloud_facts.specs.Numbers.Numbers.{Numbers, IsUpto}
 use Rattle.cloud_facts.proofs.Numbers.Ways.{is_way, open_way, way_epoch, way_txn, upto_earlier}
 use Rattle.cloud_facts.specs.Book.Effects.{after_head}
 use Rattle.cloud_facts.specs.Book.Premises.{Opens}
-use Rattle.cloud_facts.specs.Book.Records.{StandsAt, IsIn, is_under_way, IsUnderWay, under_way}
-use Rattle.cloud_facts.specs.Book.Tally.{Tally, Store}
+use Rattle.cloud_facts.specs.Book.Records.{is_under_way, IsUnderWay, under_way}
+use Rattle.cloud_facts.specs.Book.Tally.{Tally}
 use Rattle.cloud_facts.proofs.Book.Names.{at_same, at_other}
 
 -- each is the client's, and under way

@@ -7,12 +7,11 @@ use Rattle.byte_format.proofs.OrderLemmas.{same_is}
 use Rattle.db_base.specs.Value.{Value}
 use Rattle.report_types.specs.declared.stored.Stored.{Stored}
 use Rattle.leaf_view.specs.Fits.{Ascend, IsEntryIn, entry_below}
-use Rattle.leaf_view.specs.Leaf.{Entry, Leaf}
+use Rattle.cloud_facts.specs.Words.{Leaf, Link, IsIn, StandsAt}
+use Rattle.leaf_view.specs.Leaf.{Entry}
 use Rattle.leaf_view.specs.Lookup.{value_of}
 use Rattle.node_codec.proofs.EntryLemmas.{below_chain}
 use Rattle.replay_meaning.specs.Right.{value_at}
-use Rattle.cloud_facts.specs.Book.Book.{Link}
-use Rattle.cloud_facts.specs.Book.Records.{StandsAt, IsIn}
 use Rattle.cloud_facts.specs.Book.Telling.{page_from}
 use Rattle.cloud_facts.specs.Chains.Links.{link_below, low_after}
 use Rattle.cloud_facts.proofs.Chains.Pieces.{in_cases, ascend_all}

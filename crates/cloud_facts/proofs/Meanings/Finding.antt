@@ -1,12 +1,9 @@
 -- The index finds for every key the leaf of the page for the key: down by the greatest entries at most the key, and right while the key is not below.
 use Rattle.std.proofs.Common.{◌≡◌, ℕ, zero, suc, not, List, Option, Some, None, refl, sym, ap, subst, ◌∙◌, arith}
 use Rattle.std.specs.Prelude.{slice_get}
-use Rattle.cloud_trait.specs.State.{CloudState}
-use Rattle.leaf_view.specs.Leaf.{Leaf}
+use Rattle.cloud_facts.specs.Words.{Leaf, CloudState, Link, IsIn, StandsAt, nodes_of, roots_of}
 use Rattle.leaf_view.specs.Lookup.{value_of}
-use Rattle.cloud_facts.specs.Book.Book.{Link}
-use Rattle.cloud_facts.specs.Book.Records.{StandsAt, IsIn}
-use Rattle.cloud_facts.specs.Book.Telling.{page_from, newest_leaf, newest_root, nodes_of, roots_of, gone_of}
+use Rattle.cloud_facts.specs.Book.Telling.{page_from, newest_leaf, newest_root, gone_of}
 use Rattle.cloud_facts.specs.Chains.Chain.{IsChained}
 use Rattle.cloud_facts.specs.Chains.Gones.{AreKept}
 use Rattle.cloud_facts.specs.Chains.Links.{link_of, page_after, low_after}

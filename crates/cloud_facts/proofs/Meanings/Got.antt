@@ -1,11 +1,9 @@
 -- What a get answers at a page where a walk is: any landed version is read, and is of the level and of the low key that led there.
 use Rattle.std.proofs.Common.{◌≡◌, ℕ, suc, List, Some, arith}
-use Rattle.cloud_trait.specs.State.{CloudState, version_at}
+use Rattle.cloud_facts.specs.Words.{CloudState, Link, Node, Leafy, Branch, IsIn, nodes_of, roots_of}
+use Rattle.cloud_trait.specs.State.{version_at}
 use Rattle.db_base.specs.declared.names.ObjName.TheVariants as object
-use Rattle.cloud_facts.specs.Book.Book.{Link}
-use Rattle.cloud_facts.specs.Book.Records.{IsIn}
-use Rattle.cloud_facts.specs.Book.Tally.{Node, Leafy, Branch, low_of}
-use Rattle.cloud_facts.specs.Book.Telling.{nodes_of, roots_of}
+use Rattle.cloud_facts.specs.Book.Tally.{low_of}
 use Rattle.cloud_facts.specs.Chains.Chain.{IsChained}
 use Rattle.cloud_facts.specs.Chains.Links.{IsOfLevel}
 use Rattle.cloud_facts.specs.Decoding.Decodes.{Decodes}

@@ -6,26 +6,19 @@ use Rattle.std.proofs.lemmas.Bool.{and_from}
 use Rattle.std.proofs.lemmas.Slice.Eq.{bytes_eq-Decides}
 use Rattle.byte_format.proofs.OrderLemmas.{same_is, same_itself}
 use Rattle.byte_format.specs.Order.{bytes_same}
-use Rattle.cloud_trait.specs.State.{CloudState, newest}
+use Rattle.cloud_facts.specs.Words.{IsTree, Entry as Change, AtomicRec, Leaf, CloudState, newest, Book, Store, IsIn, nodes_of, roots_of, store_of, StandsUnder}
 use Rattle.db_base.specs.Change.{key_of, act}
-use Rattle.db_base.specs.Ids.{IsTree}
 use Rattle.db_base.specs.declared.names.ObjName.TheVariants as object
 use Rattle.history.specs.Fold.{Records, no_records, is_same_key, changed_by, fold_onto, fold}
 use Rattle.leaf_view.specs.Fits.{IsEntryIn}
-use Rattle.leaf_view.specs.Leaf.{Entry, Leaf}
+use Rattle.leaf_view.specs.Leaf.{Entry}
 use Rattle.leaf_view.specs.Lookup.{holds, value_of}
-use Rattle.log_codec.specs.declared.record.AtomicRec.{AtomicRec}
 use Rattle.replay_meaning.specs.Chain.{IsNewestLeaf}
-use Rattle.report_types.specs.declared.entry.Entry.{Entry as Change}
-use Rattle.cloud_facts.specs.Book.Book.{Book}
-use Rattle.cloud_facts.specs.Book.Records.{IsIn, key_in, entry_of, entries_of}
-use Rattle.cloud_facts.specs.Book.Tally.{Store}
-use Rattle.cloud_facts.specs.Book.Telling.{newest_leaf, newest_root, nodes_of, roots_of, leaf_for}
-use Rattle.cloud_facts.specs.Calls.Standing.{StandsUnder}
+use Rattle.cloud_facts.specs.Book.Records.{key_in, entry_of, entries_of}
+use Rattle.cloud_facts.specs.Book.Telling.{newest_leaf, newest_root, leaf_for}
 use Rattle.cloud_facts.specs.Chains.Chain.{IsChained}
 use Rattle.cloud_facts.specs.Orders.Order.{is_entry_of, FirstApplied, Ordered}
 use Rattle.cloud_facts.specs.Tellings.Taking.{IsLinked}
-use Rattle.cloud_facts.specs.Tellings.Told.{store_of}
 use Rattle.cloud_facts.proofs.Book.Lengths.{few_keys, image}
 use Rattle.cloud_facts.proofs.Chains.GoneLemmas.{links_kept}
 use Rattle.cloud_facts.proofs.Book.Places.{in_front}

@@ -1,12 +1,9 @@
 -- The newest leaves of the links of the leaf chain lead from page 1 to the end.
 use Rattle.std.proofs.Common.{◌∙◌, ◌≡◌, ℕ, zero, suc, List, [], ◌∷◌, arith, refl, sym, ap, subst}
 use Rattle.std.specs.Prelude.{slice_get}
-use Rattle.cloud_trait.specs.State.{CloudState, newest}
+use Rattle.cloud_facts.specs.Words.{Leaf, CloudState, newest, Link, IsIn, StandsAt, nodes_of, roots_of}
 use Rattle.db_base.specs.declared.names.ObjName.TheVariants as object
-use Rattle.leaf_view.specs.Leaf.{Leaf}
-use Rattle.cloud_facts.specs.Book.Book.{Link}
-use Rattle.cloud_facts.specs.Book.Records.{StandsAt, IsIn}
-use Rattle.cloud_facts.specs.Book.Telling.{newest_leaf, nodes_of, roots_of, gone_of}
+use Rattle.cloud_facts.specs.Book.Telling.{newest_leaf, gone_of}
 use Rattle.cloud_facts.specs.Chains.Chain.{IsChained}
 use Rattle.cloud_facts.specs.Chains.Gones.{AreKept}
 use Rattle.cloud_facts.specs.Chains.Links.{page_after}

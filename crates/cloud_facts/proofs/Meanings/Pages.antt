@@ -2,19 +2,15 @@
 use Rattle.std.proofs.Common.{◌≡◌, ◌≢◌, false, ℕ, suc, List, [], map, Option, Some, None, Ok, refl, sym, ap, subst, ◌∙◌, arith}
 use Rattle.std.specs.Prelude.{slice_get}
 use Rattle.std.specs.List.{AllByRecursion}
-use Rattle.cloud_trait.specs.State.{CloudState, newest}
-use Rattle.cloud_trait.specs.declared.state.Version.{Version}
+use Rattle.cloud_facts.specs.Words.{Leaf, Inner, Version, CloudState, newest, Link, Node, Leafy, Branch, IsIn, StandsAt, nodes_of, roots_of}
 use Rattle.db_base.specs.declared.names.ObjName.TheVariants as object
 use Rattle.leaf_view.specs.Fits.{IsEntryIn, Ascend, entry_below}
-use Rattle.leaf_view.specs.Leaf.{Leaf, IsLeaf}
+use Rattle.leaf_view.specs.Leaf.{IsLeaf}
 use Rattle.leaf_view.specs.Lookup.{empty_leaf}
 use Rattle.leaf_view.proofs.Split.{leaf_fits}
-use Rattle.node_codec.specs.Inner.{Inner}
 use Rattle.node_codec.specs.Tree.{empty_tree}
-use Rattle.cloud_facts.specs.Book.Book.{Link}
-use Rattle.cloud_facts.specs.Book.Records.{StandsAt, IsIn}
-use Rattle.cloud_facts.specs.Book.Tally.{Node, Leafy, Branch, low_of}
-use Rattle.cloud_facts.specs.Book.Telling.{last_or, leaf_in, newest_leaf, node_in, with_bytes, root_in, nodes_of, gone_of, roots_of, newest_root}
+use Rattle.cloud_facts.specs.Book.Tally.{low_of}
+use Rattle.cloud_facts.specs.Book.Telling.{last_or, leaf_in, newest_leaf, node_in, with_bytes, root_in, gone_of, newest_root}
 use Rattle.cloud_facts.specs.Chains.Chain.{IsChained}
 use Rattle.cloud_facts.specs.Chains.Gones.{AreKept}
 use Rattle.cloud_facts.specs.Chains.Links.{newest_node, IsOfLevel, EndsBefore}

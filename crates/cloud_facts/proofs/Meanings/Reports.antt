@@ -1,15 +1,12 @@
 -- What a report reads of a tree: its chain of leaves is whole, its records have the values that are told, and the index finds them.
 use Rattle.std.proofs.Common.{◌≡◌, ℕ, cond, Bool, List, Option, ◌∷◌, sym, ap, subst, ◌∙◌}
-use Rattle.cloud_trait.specs.State.{CloudState}
-use Rattle.db_base.specs.Ids.{IsTree}
+use Rattle.cloud_facts.specs.Words.{IsTree, Leaf, CloudState, Link, Store, nodes_of, roots_of}
 use Rattle.db_base.specs.Value.{Value}
-use Rattle.leaf_view.specs.Leaf.{Leaf}
 use Rattle.leaf_view.specs.Lookup.{value_of}
 use Rattle.node_codec.proofs.NodeLemmas.{not_below_empty}
 use Rattle.replay_meaning.specs.Right.{value_at}
-use Rattle.cloud_facts.specs.Book.Book.{Link}
-use Rattle.cloud_facts.specs.Book.Tally.{Tally, Store}
-use Rattle.cloud_facts.specs.Book.Telling.{tally_of, page_from, newest_leaf, nodes_of, roots_of, gone_of}
+use Rattle.cloud_facts.specs.Book.Tally.{Tally}
+use Rattle.cloud_facts.specs.Book.Telling.{tally_of, page_from, newest_leaf, gone_of}
 use Rattle.cloud_facts.specs.Chains.Chain.{IsChained, ChainHolds}
 use Rattle.cloud_facts.specs.Chains.Gones.{Gones, AreKept}
 use Rattle.cloud_facts.proofs.Chains.GoneLemmas.{links_kept}

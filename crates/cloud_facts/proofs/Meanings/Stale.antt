@@ -3,13 +3,11 @@ use Rattle.std.proofs.Common.{◌≡◌, ◌≢◌, ◌-◌, ℕ, Bool, true, fa
 use Rattle.std.specs.Prelude.{◌==◌}
 use Rattle.std.proofs.lemmas.Bool.{eqb-true, eqb-false, not-true}
 use Rattle.byte_format.specs.Order.{bytes_below}
-use Rattle.node_codec.specs.Inner.{Inner}
+use Rattle.cloud_facts.specs.Words.{Inner, Tree, Link, Node, Branch, IsIn}
 use Rattle.node_codec.specs.Node.{Entry}
-use Rattle.node_codec.specs.Tree.{Tree, empty_tree}
+use Rattle.node_codec.specs.Tree.{empty_tree}
 use Rattle.node_codec.proofs.NodeLemmas.{not_below_empty}
-use Rattle.cloud_facts.specs.Book.Book.{Link}
-use Rattle.cloud_facts.specs.Book.Records.{IsIn}
-use Rattle.cloud_facts.specs.Book.Tally.{Node, Branch, right_of, high_of}
+use Rattle.cloud_facts.specs.Book.Tally.{right_of, high_of}
 use Rattle.cloud_facts.specs.Chains.Chain.{NamesRight, IsVersionOf, IsChained}
 use Rattle.cloud_facts.specs.Chains.Links.{first_link, link_of, top_of, NamesBelow}
 use Rattle.cloud_facts.proofs.Chains.Pieces.{in_first, in_cases, none_in, not_itself}

@@ -1,13 +1,11 @@
 -- The steps of a walk for a key by whatever versions it gets: it is always at a link that is not above the key, and never again at a page.
 use Rattle.std.proofs.Common.{◌≡◌, ◌<◌, ℕ, suc, true, List, Some, refl, sym, ap, subst, ◌∙◌, ◌⊎◌, inl, inr, arith}
 use Rattle.byte_format.specs.Order.{bytes_below}
-use Rattle.node_codec.specs.Inner.{Inner}
+use Rattle.cloud_facts.specs.Words.{Inner, Tree, Link, Node, Branch, IsIn}
 use Rattle.node_codec.specs.Node.{Entry, child_of}
-use Rattle.node_codec.specs.Tree.{Tree, empty_tree}
+use Rattle.node_codec.specs.Tree.{empty_tree}
 use Rattle.node_codec.proofs.EntryLemmas.{below_chain}
-use Rattle.cloud_facts.specs.Book.Book.{Link}
-use Rattle.cloud_facts.specs.Book.Records.{IsIn}
-use Rattle.cloud_facts.specs.Book.Tally.{Node, Branch, right_of, high_of}
+use Rattle.cloud_facts.specs.Book.Tally.{right_of, high_of}
 use Rattle.cloud_facts.specs.Chains.Chain.{IsChained}
 use Rattle.cloud_facts.specs.Chains.Links.{link_of}
 use Rattle.cloud_facts.proofs.Chains.Monotone.{Stay}

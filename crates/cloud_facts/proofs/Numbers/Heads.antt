@@ -3,17 +3,13 @@ use Rattle.std.proofs.Common.{◌≡◌, ◌+◌, ◌≤◌, ℕ, List, [], ◌+
 use Rattle.std.proofs.lemmas.Bool.{cond_both, and_left, eqb-false, ne_eqb}
 use Rattle.std.proofs.lemmas.List.{map-append}
 use Rattle.std.proofs.lemmas.List.Sums.{length-filter}
-use Rattle.db_base.specs.Ids.{IsClient}
-use Rattle.head_codec.specs.declared.head.Head.{Head}
+use Rattle.cloud_facts.specs.Words.{IsClient, Entry, AtomicRec, Head, Store, IsIn, StandsAt}
 use Rattle.history.specs.Legal.{AreSame}
-use Rattle.log_codec.specs.declared.record.AtomicRec.{AtomicRec}
-use Rattle.report_types.specs.declared.entry.Entry.{Entry}
 use Rattle.route_plan.specs.Queue.{number_of_queue}
 use Rattle.route_plan.specs.Route.{goes_to}
 use Rattle.cloud_facts.specs.Book.Effects.{after_head}
 use Rattle.cloud_facts.specs.Book.Premises.{IsRouted, IsRecordAt, Opens, Settles, SettlesBehind}
-use Rattle.cloud_facts.specs.Book.Records.{StandsAt, IsIn, key_in, is_of_queue, of_queue, count_of, entry_of, entries_of}
-use Rattle.cloud_facts.specs.Book.Tally.{Store}
+use Rattle.cloud_facts.specs.Book.Records.{key_in, is_of_queue, of_queue, count_of, entry_of, entries_of}
 use Rattle.cloud_facts.specs.Numbers.Numbers.{Numbers, IsUpto, IsOnce, IsOfRecord, IsPlaced}
 use Rattle.cloud_facts.proofs.Book.Places.{get_cases}
 use Rattle.cloud_facts.proofs.Numbers.Lists.{take_there, map_there, filter_there, filter_none, count_agree}

@@ -3,24 +3,15 @@ use Rattle.std.proofs.Common.{◌≡◌, ◌+◌, ◌<◌, ◌≤◌, ◌⊎◌,
 use Rattle.std.proofs.lemmas.Bool.{and_parts, cases_lt}
 use Rattle.db_base.specs.Change.{key_of}
 use Rattle.db_base.specs.Cursor.{number_of}
-use Rattle.db_base.specs.Ids.{IsClient}
-use Rattle.db_base.specs.declared.names.ObjName.{ObjName}
-use Rattle.db_base.specs.declared.names.QueueName.{QueueName}
-use Rattle.cloud_trait.specs.declared.state.Posted.{Posted}
-use Rattle.cloud_trait.specs.declared.state.Version.{Version}
-use Rattle.cloud_trait.specs.State.{CloudState, IsEmptyCloud, marked}
-use Rattle.head_codec.specs.declared.head.Head.{Head}
+use Rattle.cloud_facts.specs.Words.{IsClient, ObjName, QueueName, Entry, AtomicRec, Head, Inner, Tree, Version, Posted, CloudState, Link, Store, Node, IsIn, StandsAt}
+use Rattle.cloud_trait.specs.State.{IsEmptyCloud, marked}
 use Rattle.leaf_edit.specs.Raised.{greatest_of}
-use Rattle.log_codec.specs.declared.record.AtomicRec.{AtomicRec}
 use Rattle.log_codec.specs.declared.record.PuRec.{PuRec}
-use Rattle.node_codec.specs.Inner.{Inner}
-use Rattle.node_codec.specs.Tree.{Tree}
-use Rattle.report_types.specs.declared.entry.Entry.{Entry}
-use Rattle.cloud_facts.specs.Book.Book.{Link, empty_book, with_pieces}
+use Rattle.cloud_facts.specs.Book.Book.{empty_book, with_pieces}
 use Rattle.cloud_facts.specs.Book.Effects.{after_head, after_logged, after_posted, after_log_mark, after_post_mark, Taking, done_after, cursor_after, after_leaf, after_page, after_inner, after_root, after_raise, after_removal}
 use Rattle.cloud_facts.specs.Book.Premises.{IsRouted, Opens, Settles, Posts, Takes, LandsFirst, CoversApplied}
-use Rattle.cloud_facts.specs.Book.Records.{StandsAt, IsIn, key_in, count_of, IsApplied}
-use Rattle.cloud_facts.specs.Book.Tally.{Node, Tally, Store, at2}
+use Rattle.cloud_facts.specs.Book.Records.{key_in, count_of, IsApplied}
+use Rattle.cloud_facts.specs.Book.Tally.{Tally, at2}
 use Rattle.cloud_facts.specs.Book.Telling.{tally_of}
 use Rattle.cloud_facts.proofs.Book.GrowthLemmas.{links_stay}
 use Rattle.cloud_facts.proofs.Book.Names.{at2_by}

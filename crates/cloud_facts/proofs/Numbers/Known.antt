@@ -1,14 +1,11 @@
 -- What follows from the numbers, for others to cite.
 use Rattle.std.proofs.Common.{◌≡◌, ◌<◌, ◌≤◌, ◌⊎◌, ⊎_elim, inl, inr, ℕ, Bool, true, false, cond, ◌==◌, ◌&&◌, max, refl, sym, subst, arith, eqb-true}
 use Rattle.std.proofs.lemmas.Bool.{and_parts, cases_lt}
-use Rattle.db_base.specs.Ids.{IsClient}
+use Rattle.cloud_facts.specs.Words.{IsClient, AtomicRec, Link, Store, IsIn}
 use Rattle.leaf_edit.specs.Raised.{greatest_of}
-use Rattle.log_codec.specs.declared.record.AtomicRec.{AtomicRec}
-use Rattle.cloud_facts.specs.Book.Book.{Link}
 use Rattle.cloud_facts.specs.Book.Effects.{Taking, after_leaf}
 use Rattle.cloud_facts.specs.Book.Premises.{Takes}
-use Rattle.cloud_facts.specs.Book.Records.{IsIn, key_in, count_of, IsApplied}
-use Rattle.cloud_facts.specs.Book.Tally.{Store}
+use Rattle.cloud_facts.specs.Book.Records.{key_in, count_of, IsApplied}
 use Rattle.cloud_facts.specs.Numbers.Numbers.{Numbers}
 use Rattle.cloud_facts.proofs.Numbers.Kept.{never_routed}
 use Rattle.cloud_facts.proofs.Numbers.Queues.{record_determined, number_within, number_some, number_taken, HasNumber}

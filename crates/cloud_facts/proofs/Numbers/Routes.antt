@@ -1,9 +1,8 @@
 -- The queues of records stand where no leaf's link goes.
 use Rattle.std.proofs.Common.{ℕ, List, inl, inr}
-use Rattle.log_codec.specs.declared.record.AtomicRec.{AtomicRec}
-use Rattle.cloud_facts.specs.Book.Book.{Book, Link}
+use Rattle.cloud_facts.specs.Words.{AtomicRec, Book, Link, IsIn}
 use Rattle.cloud_facts.specs.Book.Premises.{IsLeafAtMost, IsRouted}
-use Rattle.cloud_facts.specs.Book.Records.{IsIn, key_in}
+use Rattle.cloud_facts.specs.Book.Records.{key_in}
 
 -- every link of the leaf chains stays
 abbrev pub LeavesStay : Book → Book → Type 0

@@ -4,14 +4,12 @@ use Rattle.std.proofs.lemmas.Bool.{and_parts}
 use Rattle.std.proofs.lemmas.List.Sums.{sum_by-cons}
 use Rattle.db_base.specs.Change.{key_of}
 use Rattle.leaf_edit.specs.Raised.{greatest_of}
-use Rattle.log_codec.specs.declared.record.AtomicRec.{AtomicRec}
-use Rattle.log_codec.specs.declared.record.PuItem.{PuItem}
+use Rattle.cloud_facts.specs.Words.{AtomicRec, PuItem, Store, IsIn}
 use Rattle.log_codec.specs.declared.record.PuRec.{PuRec}
 use Rattle.route_plan.specs.Record.{pu_record_of}
 use Rattle.run_cursor.specs.Run.{is_at}
 use Rattle.cloud_facts.specs.Book.Premises.{IsItemOf, IsConsecutive}
-use Rattle.cloud_facts.specs.Book.Records.{IsIn, key_in, count_of}
-use Rattle.cloud_facts.specs.Book.Tally.{Store}
+use Rattle.cloud_facts.specs.Book.Records.{key_in, count_of}
 use Rattle.cloud_facts.proofs.Numbers.Queues.{InOrder, IsOfQueue, number_within, record_determined}
 
 -- ---- what is counted is there

@@ -6,11 +6,9 @@ use Rattle.std.proofs.lemmas.List.{map-append}
 use Rattle.std.proofs.lemmas.List.Elements.{filter-append}
 use Rattle.std.proofs.lemmas.Slice.Eq.{bytes_eq-Decides}
 use Rattle.leaf_edit.specs.Raised.{greatest_of}
-use Rattle.log_codec.specs.declared.record.AtomicRec.{AtomicRec}
-use Rattle.report_types.specs.declared.entry.Entry.{Entry}
+use Rattle.cloud_facts.specs.Words.{Entry, AtomicRec, Store, IsIn, StandsAt}
 use Rattle.cloud_facts.specs.Book.Effects.{Taking, taken_entries, after_leaf}
-use Rattle.cloud_facts.specs.Book.Records.{StandsAt, IsIn, key_in, is_of_key, of_key, entry_of, entries_of, IsApplied}
-use Rattle.cloud_facts.specs.Book.Tally.{Store}
+use Rattle.cloud_facts.specs.Book.Records.{key_in, is_of_key, of_key, entry_of, entries_of, IsApplied}
 use Rattle.cloud_facts.proofs.Book.Places.{get_cases, get_behind}
 use Rattle.cloud_facts.proofs.Numbers.Lists.{filter_there, filter_at}
 use Rattle.cloud_facts.specs.Orders.Order.{is_entry_of, entries_of_key, IsLeft, FirstApplied}

@@ -6,25 +6,15 @@ use Rattle.std.proofs.lemmas.Bool.{and_parts, and_from, both_ways, false_from_ne
 use Rattle.std.proofs.lemmas.List.Elements.{filter-append}
 use Rattle.std.proofs.lemmas.Slice.Eq.{bytes_eq-Decides}
 use Rattle.db_base.specs.Change.{key_of}
-use Rattle.db_base.specs.Ids.{IsClient, IsTree}
-use Rattle.db_base.specs.declared.names.ObjName.{ObjName}
-use Rattle.db_base.specs.declared.names.QueueName.{QueueName}
-use Rattle.cloud_trait.specs.declared.state.Posted.{Posted}
-use Rattle.cloud_trait.specs.declared.state.Version.{Version}
-use Rattle.cloud_trait.specs.State.{CloudState, IsEmptyCloud}
-use Rattle.head_codec.specs.declared.head.Head.{Head}
+use Rattle.cloud_facts.specs.Words.{IsClient, IsTree, ObjName, QueueName, Entry, AtomicRec, PuItem, Head, Inner, Tree, Version, Posted, CloudState, Link, Store, Node, IsIn, StandsAt}
+use Rattle.cloud_trait.specs.State.{IsEmptyCloud}
 use Rattle.history.specs.Fold.{Records, no_records, fold, fold_onto}
 use Rattle.history.proofs.FoldLemmas.{fold_onto-append}
-use Rattle.log_codec.specs.declared.record.AtomicRec.{AtomicRec}
-use Rattle.log_codec.specs.declared.record.PuItem.{PuItem}
-use Rattle.node_codec.specs.Inner.{Inner}
-use Rattle.node_codec.specs.Tree.{Tree}
-use Rattle.report_types.specs.declared.entry.Entry.{Entry}
-use Rattle.cloud_facts.specs.Book.Book.{Link, empty_book}
+use Rattle.cloud_facts.specs.Book.Book.{empty_book}
 use Rattle.cloud_facts.specs.Book.Effects.{after_head, after_logged, after_posted, after_log_mark, after_post_mark, Taking, is_lacking, lacking, taken_entry, taken_entries, after_leaf, after_page, after_inner, after_root, after_raise, after_removal}
 use Rattle.cloud_facts.specs.Book.Premises.{Opens, Takes}
-use Rattle.cloud_facts.specs.Book.Records.{StandsAt, IsIn, key_in, is_of_key, of_key}
-use Rattle.cloud_facts.specs.Book.Tally.{Node, Tally, Store}
+use Rattle.cloud_facts.specs.Book.Records.{key_in, is_of_key, of_key}
+use Rattle.cloud_facts.specs.Book.Tally.{Tally}
 use Rattle.cloud_facts.specs.Book.Telling.{tally_of}
 use Rattle.cloud_facts.specs.Numbers.Numbers.{Numbers}
 use Rattle.cloud_facts.proofs.Numbers.Lists.{map_there, filter_there, filter_none}

@@ -6,16 +6,13 @@ use Rattle.std.proofs.lemmas.Bool.{and_parts, and_from, ltb-true, lt-ltb}
 use Rattle.std.proofs.lemmas.Slice.Eq.{bytes_eq-Decides}
 use Rattle.db_base.specs.Change.{key_of}
 use Rattle.leaf_edit.specs.Raised.{greatest_of}
-use Rattle.log_codec.specs.declared.record.AtomicRec.{AtomicRec}
-use Rattle.log_codec.specs.declared.record.PuItem.{PuItem}
+use Rattle.cloud_facts.specs.Words.{Entry, AtomicRec, PuItem, Store, StandsAt}
 use Rattle.log_codec.specs.declared.record.PuRec.{PuRec}
-use Rattle.report_types.specs.declared.entry.Entry.{Entry}
 use Rattle.route_plan.specs.Record.{pu_record_of}
 use Rattle.run_cursor.specs.Run.{is_at}
 use Rattle.cloud_facts.specs.Book.Effects.{Taking, is_lacking, lacking, taken_entry, taken_entries}
 use Rattle.cloud_facts.specs.Book.Premises.{IsItemOf, IsConsecutive, Takes}
-use Rattle.cloud_facts.specs.Book.Records.{StandsAt, key_in, of_queue, entry_of, entries_of}
-use Rattle.cloud_facts.specs.Book.Tally.{Store}
+use Rattle.cloud_facts.specs.Book.Records.{key_in, of_queue, entry_of, entries_of}
 use Rattle.cloud_facts.specs.Numbers.Numbers.{Numbers}
 use Rattle.cloud_facts.proofs.Numbers.Lists.{filter_agree}
 use Rattle.cloud_facts.proofs.Numbers.Queues.{IsOfQueue, seat}

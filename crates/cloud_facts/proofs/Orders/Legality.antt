@@ -6,14 +6,11 @@ use Rattle.std.proofs.lemmas.List.{map-append}
 use Rattle.std.proofs.lemmas.Option.{slice_get_within}
 use Rattle.std.proofs.lemmas.Slice.Eq.{bytes_eq-Decides}
 use Rattle.db_base.specs.Change.{key_of}
-use Rattle.db_base.specs.Ids.{IsClient}
+use Rattle.cloud_facts.specs.Words.{IsClient, Entry, AtomicRec, Store, IsIn, StandsAt}
 use Rattle.history.specs.Fold.{no_records, fold, of_tree}
 use Rattle.history.specs.Legal.{IsLegal, AreSame, AreOfOneKey}
 use Rattle.history.proofs.FoldLemmas.{fold_onto-of_tree}
-use Rattle.log_codec.specs.declared.record.AtomicRec.{AtomicRec}
-use Rattle.report_types.specs.declared.entry.Entry.{Entry}
-use Rattle.cloud_facts.specs.Book.Records.{StandsAt, IsIn, key_in, is_of_key, of_key, entry_of, entries_of, IsApplied}
-use Rattle.cloud_facts.specs.Book.Tally.{Store}
+use Rattle.cloud_facts.specs.Book.Records.{key_in, is_of_key, of_key, entry_of, entries_of, IsApplied}
 use Rattle.cloud_facts.proofs.Book.Places.{get_front, get_cases}
 use Rattle.cloud_facts.specs.Numbers.Numbers.{Numbers, IsOnce}
 use Rattle.cloud_facts.proofs.Numbers.Lists.{filter_there, filter_at, filter_agree, map_there, map_at}

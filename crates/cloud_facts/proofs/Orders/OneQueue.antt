@@ -1,9 +1,8 @@
 -- What is not applied of a key is of one queue, where of two records of a key the earlier is applied or in the queue of the later.
 use Rattle.std.proofs.Common.{◌≡◌, ◌<◌, ◌⊎◌, ⊎_elim, ℕ, sym, ap, arith}
 use Rattle.std.proofs.lemmas.Bool.{cases_lt}
-use Rattle.log_codec.specs.declared.record.AtomicRec.{AtomicRec}
-use Rattle.cloud_facts.specs.Book.Records.{StandsAt, IsIn, key_in, IsApplied}
-use Rattle.cloud_facts.specs.Book.Tally.{Store}
+use Rattle.cloud_facts.specs.Words.{AtomicRec, Store, IsIn, StandsAt}
+use Rattle.cloud_facts.specs.Book.Records.{key_in, IsApplied}
 use Rattle.cloud_facts.proofs.Numbers.Lists.{get_same}
 use Rattle.cloud_facts.specs.Orders.Order.{IsLeft, UnappliedOfOneQueue}
 

@@ -5,13 +5,12 @@ use Rattle.std.proofs.lemmas.Bool.{and_parts, and_from, cases_lt, eqb-false, ltb
 use Rattle.std.proofs.lemmas.List.{take-append-drop}
 use Rattle.std.proofs.lemmas.List.Elements.{filter-append}
 use Rattle.std.proofs.lemmas.Slice.Eq.{bytes_eq-Decides}
-use Rattle.db_base.specs.Ids.{IsClient}
+use Rattle.cloud_facts.specs.Words.{IsClient, AtomicRec, Store, IsIn, StandsAt}
 use Rattle.leaf_edit.specs.Raised.{greatest_of}
-use Rattle.log_codec.specs.declared.record.AtomicRec.{AtomicRec}
 use Rattle.cloud_facts.specs.Book.Effects.{Taking, taken_entries, after_leaf}
 use Rattle.cloud_facts.specs.Book.Premises.{IsConsecutive, Takes}
-use Rattle.cloud_facts.specs.Book.Records.{StandsAt, IsIn, key_in, is_of_queue, of_queue, is_of_key, entries_of, IsApplied}
-use Rattle.cloud_facts.specs.Book.Tally.{Tally, Store}
+use Rattle.cloud_facts.specs.Book.Records.{key_in, is_of_queue, of_queue, is_of_key, entries_of, IsApplied}
+use Rattle.cloud_facts.specs.Book.Tally.{Tally}
 use Rattle.cloud_facts.specs.Numbers.Numbers.{Numbers}
 use Rattle.cloud_facts.proofs.Numbers.Lists.{filter_there, filter_agree, take_there}
 use Rattle.cloud_facts.proofs.Numbers.Queues.{queue_test, queue_parts}

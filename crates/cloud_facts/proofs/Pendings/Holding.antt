@@ -1,14 +1,12 @@
 -- What holds of a client's head, by the head itself.
 use Rattle.std.proofs.Common.{◌≡◌, ℕ, true, List, sym, subst}
 use Rattle.db_base.specs.Change.{key_of}
-use Rattle.head_codec.specs.declared.head.Head.{Head}
+use Rattle.cloud_facts.specs.Words.{AtomicRec, Head, Store, IsIn}
 use Rattle.head_codec.specs.declared.lists.Pending.{Pending}
-use Rattle.log_codec.specs.declared.record.AtomicRec.{AtomicRec}
 use Rattle.cloud_facts.specs.Pendings.Pending.{IsOwn, IsOfKey, HeadPends}
 use Rattle.cloud_facts.proofs.Numbers.Ways.{is_way}
 use Rattle.route_plan.specs.Record.{pending_of}
-use Rattle.cloud_facts.specs.Book.Records.{IsIn, key_in}
-use Rattle.cloud_facts.specs.Book.Tally.{Store}
+use Rattle.cloud_facts.specs.Book.Records.{key_in}
 
 -- the same of a head and a log
 pub record Holds (log : List AtomicRec) (client : ℕ) (h : Head) : Type 0 where

@@ -1,10 +1,8 @@
 -- A head that opens keeps what holds of pending entries.
 use Rattle.std.proofs.Common.{◌≡◌, ◌≢◌, ◌+◌, ◌<◌, ◌≤◌, ◌⊎◌, inl, inr, ℕ, true, List, ◌++◌, length, sym, subst, ◌∙◌, arith}
 use Rattle.std.proofs.lemmas.Bool.{cases_eq}
-use Rattle.db_base.specs.Ids.{IsClient}
-use Rattle.head_codec.specs.declared.head.Head.{Head}
+use Rattle.cloud_facts.specs.Words.{IsClient, AtomicRec, Head, Store, IsIn, StandsAt}
 use Rattle.head_codec.specs.declared.lists.Pending.{Pending}
-use Rattle.log_codec.specs.declared.record.AtomicRec.{AtomicRec}
 use Rattle.cloud_facts.specs.Numbers.Numbers.{Numbers, IsUpto}
 use Rattle.cloud_facts.specs.Pendings.Pending.{IsOwn, AreOfKey, IsOfKey, IsPending, HeadPends, Pends}
 use Rattle.cloud_facts.proofs.Pendings.Holding.{Holds, holds_of, pends_of}
@@ -12,8 +10,7 @@ use Rattle.cloud_facts.proofs.Numbers.Ways.{is_way, settled_way, open_way, way_e
 use Rattle.route_plan.specs.Record.{pending_of}
 use Rattle.cloud_facts.specs.Book.Effects.{after_head}
 use Rattle.cloud_facts.specs.Book.Premises.{Opens, IsAppliedEntry}
-use Rattle.cloud_facts.specs.Book.Records.{StandsAt, IsIn, key_in, IsApplied, IsUnderWay}
-use Rattle.cloud_facts.specs.Book.Tally.{Store}
+use Rattle.cloud_facts.specs.Book.Records.{key_in, IsApplied, IsUnderWay}
 use Rattle.cloud_facts.proofs.Book.Names.{at_same, at_other}
 use Rattle.cloud_facts.proofs.Book.Places.{get_cases, get_within, in_either, in_front}
 

@@ -3,11 +3,9 @@ use Rattle.std.proofs.Common.{◌≡◌, ◌≢◌, ◌≤◌, ◌⊎◌, inl, i
 use Rattle.std.specs.Prelude.{slice_get}
 use Rattle.std.proofs.lemmas.Bool.{cases_eq}
 use Rattle.db_base.specs.Change.{key_of}
-use Rattle.db_base.specs.Ids.{IsClient}
-use Rattle.head_codec.specs.declared.head.Head.{Head}
+use Rattle.cloud_facts.specs.Words.{IsClient, AtomicRec, Head, Store, IsIn, StandsAt}
 use Rattle.head_codec.specs.declared.lists.Pending.{Pending}
 use Rattle.history.specs.Legal.{AreSame}
-use Rattle.log_codec.specs.declared.record.AtomicRec.{AtomicRec}
 use Rattle.cloud_facts.specs.Numbers.Numbers.{Numbers}
 use Rattle.cloud_facts.specs.Pendings.Pending.{IsOwn, IsOfKey, IsPending, HeadPends, Pends}
 use Rattle.cloud_facts.proofs.Pendings.Holding.{Holds, holds_of, pends_of}
@@ -15,8 +13,7 @@ use Rattle.cloud_facts.proofs.Numbers.Ways.{is_way, settled_way, way_epoch, way_
 use Rattle.route_plan.specs.Record.{pending_of}
 use Rattle.cloud_facts.specs.Book.Effects.{after_head}
 use Rattle.cloud_facts.specs.Book.Premises.{Settles, IsAppliedEntry}
-use Rattle.cloud_facts.specs.Book.Records.{StandsAt, IsIn, key_in, entry_of, IsApplied, IsUnderWay}
-use Rattle.cloud_facts.specs.Book.Tally.{Store}
+use Rattle.cloud_facts.specs.Book.Records.{key_in, entry_of, IsApplied, IsUnderWay}
 use Rattle.cloud_facts.proofs.Book.Names.{at_same, at_other}
 use Rattle.cloud_facts.proofs.Book.Places.{get_map, in_either, in_front, in_none}
 

@@ -1,23 +1,18 @@
 -- What changes no head and no record of the log keeps what holds of pending entries.
 use Rattle.std.proofs.Common.{◌≡◌, ◌⊎◌, inl, inr, ℕ, List, map, ap}
-use Rattle.cloud_trait.specs.State.{CloudState, IsEmptyCloud}
-use Rattle.cloud_trait.specs.declared.state.Posted.{Posted}
+use Rattle.cloud_facts.specs.Words.{AtomicRec, Head, Inner, Tree, Posted, CloudState, Link, Store, Node, IsIn}
+use Rattle.cloud_trait.specs.State.{IsEmptyCloud}
 use Rattle.db_base.specs.declared.names.ObjName.TheVariants as object
 use Rattle.head_codec.specs.Head.{empty_head}
-use Rattle.head_codec.specs.declared.head.Head.{Head}
 use Rattle.head_codec.specs.declared.lists.Pending.{Pending}
-use Rattle.log_codec.specs.declared.record.AtomicRec.{AtomicRec}
-use Rattle.node_codec.specs.Inner.{Inner}
-use Rattle.node_codec.specs.Tree.{Tree}
 use Rattle.cloud_facts.specs.Numbers.Numbers.{Numbers}
 use Rattle.cloud_facts.specs.Pendings.Pending.{IsPending, Pends}
 use Rattle.cloud_facts.proofs.Pendings.Holding.{holds_of, pends_of}
-use Rattle.cloud_facts.specs.Book.Book.{Link, empty_book}
+use Rattle.cloud_facts.specs.Book.Book.{empty_book}
 use Rattle.cloud_facts.specs.Book.Effects.{Taking, after_logged, after_posted, after_log_mark, after_post_mark, after_leaf, after_page, after_inner, after_root, after_raise, after_removal}
 use Rattle.cloud_facts.specs.Book.Growth.{Grows}
 use Rattle.cloud_facts.specs.Book.Premises.{Takes}
-use Rattle.cloud_facts.specs.Book.Records.{IsIn, IsApplied}
-use Rattle.cloud_facts.specs.Book.Tally.{Store, Node}
+use Rattle.cloud_facts.specs.Book.Records.{IsApplied}
 use Rattle.cloud_facts.proofs.Book.Empty.{empty_store, no_records}
 use Rattle.cloud_facts.specs.Book.Telling.{tally_of, last_or, head_in}
 use Rattle.cloud_facts.proofs.Book.GrowthLemmas.{applied_stays, leaf_grows}

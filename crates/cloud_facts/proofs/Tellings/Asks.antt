@@ -1,13 +1,9 @@
 -- Calls that change no object and no message; and what holds of a store, said of what a cloud tells.
 use Rattle.std.proofs.Common.{◌≡◌, List, sym, subst}
-use Rattle.cloud_trait.specs.Ask.{Ask, effect, PutsNothing, TouchesNoMessage}
-use Rattle.cloud_trait.specs.Caller.{Caller}
-use Rattle.cloud_trait.specs.State.{CloudState}
+use Rattle.cloud_facts.specs.Words.{Entry, CloudState, Caller, Ask, Book, Store, store_of}
+use Rattle.cloud_trait.specs.Ask.{effect, PutsNothing, TouchesNoMessage}
 use Rattle.cloud_trait.proofs.EffectLemmas.{effect_versions, effect_messages}
-use Rattle.report_types.specs.declared.entry.Entry.{Entry}
-use Rattle.cloud_facts.specs.Book.Book.{Book}
-use Rattle.cloud_facts.specs.Book.Tally.{Store}
-use Rattle.cloud_facts.specs.Tellings.Told.{store_of, Tells}
+use Rattle.cloud_facts.specs.Tellings.Told.{Tells}
 use Rattle.cloud_facts.proofs.Tellings.Easy.{same_told}
 
 -- a call that puts nothing and touches no message leaves what is told

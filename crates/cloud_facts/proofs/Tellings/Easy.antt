@@ -1,30 +1,22 @@
 -- Heads and messages.
 use Rattle.std.proofs.Common.{◌≡◌, ℕ, zero, suc, true, false, List, [], ◌∷◌, ◌++◌, map, Some, None, refl, ap, ◌∙◌}
 use Rattle.db_base.specs.declared.names.ObjName.TheVariants as object
-use Rattle.db_base.specs.declared.names.QueueName.{QueueName}
+use Rattle.cloud_facts.specs.Words.{ObjName, QueueName, Entry, AtomicRec, Head, Version, Posted, CloudState, Caller, Book, Node, nodes_of, store_of}
 use Rattle.db_base.specs.declared.names.QueueName.TheVariants.{Atomic}
-use Rattle.cloud_trait.specs.Caller.{Caller}
 use Rattle.cloud_trait.proofs.NameLemmas.{object_cmp-equal}
 use Rattle.cloud_trait.proofs.StateLemmas.{put_at_by}
-use Rattle.db_base.specs.declared.names.ObjName.{ObjName}
 use Rattle.leaf_view.specs.Lookup.{value_of, number_of as done_number}
 use Rattle.cloud_trait.specs.Names.{object_cmp, queue_cmp}
-use Rattle.cloud_trait.specs.State.{CloudState, landed, removed, sent, deleted, marked, put_at}
+use Rattle.cloud_trait.specs.State.{landed, removed, sent, deleted, marked, put_at}
 use Rattle.cloud_trait.specs.declared.state.Landing.{Landing}
-use Rattle.cloud_trait.specs.declared.state.Posted.{Posted}
-use Rattle.cloud_trait.specs.declared.state.Version.{Version}
 use Rattle.head_codec.specs.Head.{empty_head}
 use Rattle.head_codec.specs.Spelling.{head_of}
-use Rattle.head_codec.specs.declared.head.Head.{Head}
-use Rattle.log_codec.specs.declared.record.AtomicRec.{AtomicRec}
-use Rattle.report_types.specs.declared.entry.Entry.{Entry}
-use Rattle.cloud_facts.specs.Book.Book.{Book}
 use Rattle.cloud_facts.specs.Book.Effects.{after_head, after_logged, after_posted, after_log_mark, after_post_mark, after_removal, with_logged, with_posts}
-use Rattle.cloud_facts.specs.Book.Tally.{Node, Tally, at2}
-use Rattle.cloud_facts.specs.Book.Telling.{tally_of, last_or, head_in, node_in, with_bytes, is_gone, nodes_of, gone_of, leaf_for, newest_leaf, queue_of, cursor_of}
+use Rattle.cloud_facts.specs.Book.Tally.{Tally, at2}
+use Rattle.cloud_facts.specs.Book.Telling.{tally_of, last_or, head_in, node_in, with_bytes, is_gone, gone_of, leaf_for, newest_leaf, queue_of, cursor_of}
 use Rattle.cloud_facts.proofs.Decoding.Reading.{head_reads}
 use Rattle.cloud_facts.proofs.Decoding.Versions.{bare_added, gone_added}
-use Rattle.cloud_facts.specs.Tellings.Told.{store_of, AreAlike, Tells}
+use Rattle.cloud_facts.specs.Tellings.Told.{AreAlike, Tells}
 use Rattle.cloud_facts.proofs.Tellings.Names.{put_head, put_page, put_atomic, put_queue, at_image, at2_image, last_image}
 
 -- tallies that say the same at each name are the same

@@ -7,9 +7,8 @@ use Rattle.leaf_view.specs.Fits.{Ascend}
 use Rattle.node_codec.proofs.EntryLemmas.{below_chain}
 use Rattle.split_plan.specs.Cut.{front_part, back_part, cut_by}
 use Rattle.split_plan.specs.Part.{Part}
-use Rattle.cloud_facts.specs.Book.Book.{Link}
-use Rattle.cloud_facts.specs.Book.Records.{StandsAt, IsIn}
-use Rattle.cloud_facts.specs.Book.Tally.{Node, low_of, right_of as right_page, high_of}
+use Rattle.cloud_facts.specs.Words.{Link, Node, IsIn, StandsAt}
+use Rattle.cloud_facts.specs.Book.Tally.{low_of, right_of as right_page, high_of}
 use Rattle.cloud_facts.specs.Chains.Chain.{IsUnlinked}
 use Rattle.cloud_facts.specs.Chains.Landing.{ArePieces, LandsOn, first_or}
 use Rattle.cloud_facts.specs.Chains.Links.{link_below, IsOfLevel, EndsBefore, NodeNames, page_after, low_after}

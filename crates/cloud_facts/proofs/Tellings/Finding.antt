@@ -2,13 +2,10 @@
 use Rattle.std.proofs.Common.{◌≡◌, ◌+◌, ℕ, true, false, List, [], ◌∷◌, ◌++◌, Option, Some, None, sym, ap, subst, ◌∙◌, ◌⊎◌, inl, inr}
 use Rattle.std.specs.Prelude.{slice_get}
 use Rattle.byte_format.specs.Order.{bytes_below}
-use Rattle.cloud_trait.specs.State.{CloudState}
-use Rattle.leaf_view.specs.Leaf.{Leaf}
+use Rattle.cloud_facts.specs.Words.{Leaf, CloudState, Book, Link, StandsAt, nodes_of}
 use Rattle.leaf_view.specs.Lookup.{holds}
-use Rattle.cloud_facts.specs.Book.Book.{Book, Link}
 use Rattle.cloud_facts.specs.Book.Premises.{Ranges}
-use Rattle.cloud_facts.specs.Book.Records.{StandsAt}
-use Rattle.cloud_facts.specs.Book.Telling.{newest_leaf, page_from, page_for, leaf_for, nodes_of}
+use Rattle.cloud_facts.specs.Book.Telling.{newest_leaf, page_from, page_for, leaf_for}
 use Rattle.cloud_facts.specs.Chains.Chain.{AreLevels, AreVersions, AreNewest}
 use Rattle.cloud_facts.proofs.Chains.Joining.{level_apart}
 use Rattle.cloud_facts.specs.Tellings.Taking.{IsLinked}

@@ -2,28 +2,22 @@
 use Rattle.std.proofs.Common.{◌≡◌, ◌≢◌, ◌+◌, ◌-◌, ℕ, List, [], ◌∷◌, length, true, false, refl, sym, ap, subst, ◌∙◌, ◌⊎◌, inl, inr, arith}
 use Rattle.std.specs.Prelude.{slice_get}
 use Rattle.std.specs.List.{AllByRecursion}
-use Rattle.db_base.specs.Ids.{IsTree}
+use Rattle.cloud_facts.specs.Words.{IsTree, Entry, PuItem, Leaf, Inner, Tree, CloudState, Caller, Book, Link, Node, Leafy, Branch, IsIn, nodes_of, roots_of, store_of}
 use Rattle.db_base.specs.declared.names.ObjName.TheVariants as object
-use Rattle.cloud_trait.specs.Caller.{Caller}
-use Rattle.cloud_trait.specs.State.{CloudState, landed as put}
+use Rattle.cloud_trait.specs.State.{landed as put}
 use Rattle.leaf_edit.specs.Applied.{applied}
-use Rattle.leaf_view.specs.Leaf.{Leaf, IsLeaf}
+use Rattle.leaf_view.specs.Leaf.{IsLeaf}
 use Rattle.leaf_view.specs.Lookup.{empty_leaf, holds, number_of as done_number}
-use Rattle.log_codec.specs.declared.record.PuItem.{PuItem}
-use Rattle.node_codec.specs.Inner.{Inner, IsInner}
-use Rattle.node_codec.specs.Tree.{Tree}
+use Rattle.node_codec.specs.Inner.{IsInner}
 use Rattle.node_codec.specs.Tree.{IsTree as IsRoot}
-use Rattle.report_types.specs.declared.entry.Entry.{Entry}
 use Rattle.split_plan.specs.Part.{part_of_leaf, record_key}
 use Rattle.split_plan.specs.Plan.{leaf_pieces}
 use Rattle.split_plan.specs.Sizes.{cuts_of}
 use Rattle.split_plan.proofs.Counting.{can-cuts}
-use Rattle.cloud_facts.specs.Book.Book.{Book, Link}
 use Rattle.cloud_facts.specs.Book.Effects.{after_page, after_leaf, after_inner, after_raise, done_after}
 use Rattle.cloud_facts.specs.Book.Premises.{Ranges, LandsFirst}
-use Rattle.cloud_facts.specs.Book.Records.{IsIn}
-use Rattle.cloud_facts.specs.Book.Tally.{Node, Leafy, Branch, version_of}
-use Rattle.cloud_facts.specs.Book.Telling.{tally_of, last_or, leaf_in, newest_leaf, nodes_of, gone_of, roots_of, newest_root, cursor_of}
+use Rattle.cloud_facts.specs.Book.Tally.{version_of}
+use Rattle.cloud_facts.specs.Book.Telling.{tally_of, last_or, leaf_in, newest_leaf, gone_of, newest_root, cursor_of}
 use Rattle.cloud_facts.specs.Chains.Chain.{ChainHolds, IsChained, IsUnlinked}
 use Rattle.cloud_facts.specs.Chains.Landing.{LandsLeaf, LandsInner, Raises}
 use Rattle.cloud_facts.specs.Chains.Links.{first_link, newest_node, IsOfLevel}
@@ -35,7 +29,7 @@ use Rattle.cloud_facts.proofs.Decoding.Values.{leaf_next}
 use Rattle.cloud_facts.specs.Chains.Cuts.{HaveLanded, leaf_node}
 use Rattle.cloud_facts.specs.Tellings.Pieces.{first_part, right_of, leaf_parts, left_leaf, leaf_links}
 use Rattle.cloud_facts.specs.Tellings.Taking.{AreClients, IsLinked, LandsTaken, taking_of}
-use Rattle.cloud_facts.specs.Tellings.Told.{store_of, Tells, own_of}
+use Rattle.cloud_facts.specs.Tellings.Told.{Tells, own_of}
 use Rattle.cloud_facts.proofs.Tellings.Fences.{Rises, all_parts}
 use Rattle.cloud_facts.proofs.Tellings.Finding.{ranges_are}
 use Rattle.cloud_facts.proofs.Tellings.Leaves.{leaf_tells, table_is, lands_leaf}

@@ -6,8 +6,8 @@ use Rattle.std.proofs.lemmas.Bool.{eqb-true, eqb-false, eq-eqb}
 use Rattle.byte_format.specs.Order.{bytes_below}
 use Rattle.db_base.specs.Change.{key_of}
 use Rattle.db_base.specs.declared.names.ObjName.TheVariants as object
-use Rattle.cloud_trait.specs.Caller.{Caller}
-use Rattle.cloud_trait.specs.State.{CloudState, landed as put}
+use Rattle.cloud_facts.specs.Words.{Entry as Change, PuItem, Leaf, CloudState, Caller, Book, Link, Node, Leafy, IsIn, nodes_of, store_of}
+use Rattle.cloud_trait.specs.State.{landed as put}
 use Rattle.history.specs.Fold.{Records, fold_onto}
 use Rattle.leaf_edit.specs.Acted.{acted_by}
 use Rattle.leaf_edit.specs.Applied.{applied}
@@ -17,16 +17,13 @@ use Rattle.leaf_edit.specs.Raised.{greatest_of}
 use Rattle.leaf_edit.proofs.Edits.{edited-ascends}
 use Rattle.leaf_edit.proofs.Values.{value_of-edited_by}
 use Rattle.leaf_view.specs.Fits.{Ascend, entry_below}
-use Rattle.leaf_view.specs.Leaf.{Entry, Leaf, IsLeaf}
+use Rattle.leaf_view.specs.Leaf.{Entry, IsLeaf}
 use Rattle.leaf_view.specs.Lookup.{empty_leaf, holds, value_of, number_of as done_number}
-use Rattle.log_codec.specs.declared.record.PuItem.{PuItem}
-use Rattle.report_types.specs.declared.entry.Entry.{Entry as Change}
 use Rattle.split_plan.specs.Part.{LeafPart, leaf_of_part, part_of_leaf, record_key}
-use Rattle.cloud_facts.specs.Book.Book.{Book, Link, with_pieces}
+use Rattle.cloud_facts.specs.Book.Book.{with_pieces}
 use Rattle.cloud_facts.specs.Book.Effects.{done_after, Taking, after_leaf, lacking, is_lacking, taken_entry}
-use Rattle.cloud_facts.specs.Book.Records.{IsIn}
-use Rattle.cloud_facts.specs.Book.Tally.{Node, Leafy, at2}
-use Rattle.cloud_facts.specs.Book.Telling.{tally_of, last_or, leaf_in, newest_leaf, page_from, page_for, leaf_for, nodes_of, cursor_of, gone_of}
+use Rattle.cloud_facts.specs.Book.Tally.{at2}
+use Rattle.cloud_facts.specs.Book.Telling.{tally_of, last_or, leaf_in, newest_leaf, page_from, page_for, leaf_for, cursor_of, gone_of}
 use Rattle.cloud_facts.specs.Chains.Chain.{AreLevels, AreVersions, AreNewest}
 use Rattle.cloud_facts.specs.Chains.Landing.{LandsOn, LandsLeaf}
 use Rattle.cloud_facts.specs.Chains.Links.{low_after}
@@ -34,7 +31,7 @@ use Rattle.cloud_facts.proofs.Chains.Pieces.{in_first, in_rest, in_cases, none_i
 use Rattle.cloud_facts.specs.Chains.Cuts.{links_on, HaveLanded, leaf_node}
 use Rattle.cloud_facts.specs.Tellings.Pieces.{right_of, leaf_parts, left_leaf, leaf_links}
 use Rattle.cloud_facts.specs.Tellings.Taking.{taking_of, LandsTaken}
-use Rattle.cloud_facts.specs.Tellings.Told.{store_of, Tells, own_of}
+use Rattle.cloud_facts.specs.Tellings.Told.{Tells, own_of}
 use Rattle.cloud_facts.proofs.Tellings.Cuts.{AreAt, Finds, cut_finds}
 use Rattle.cloud_facts.proofs.Tellings.Easy.{alike}
 use Rattle.cloud_facts.proofs.Tellings.Fences.{Rises, lows_under, cut_common, cut_version, cut_lands, all_common}

@@ -5,15 +5,14 @@ use Rattle.std.specs.Cmp.{IsTotalOrder}
 use Rattle.std.specs.Ordering.{is_eq}
 use Rattle.std.proofs.lemmas.Bool.{eqb-true, eqb-false, eq-eqb, and_parts, and_from}
 use Rattle.std.proofs.lemmas.List.{map-append}
-use Rattle.db_base.specs.declared.names.ObjName.{ObjName}
+use Rattle.cloud_facts.specs.Words.{ObjName, QueueName, at}
 use Rattle.db_base.specs.declared.names.ObjName.TheVariants as object
-use Rattle.db_base.specs.declared.names.QueueName.{QueueName}
 use Rattle.db_base.specs.declared.names.QueueName.TheVariants.{Atomic}
 use Rattle.cloud_trait.specs.Names.{object_cmp, queue_cmp}
 use Rattle.cloud_trait.specs.State.{put_at}
 use Rattle.cloud_trait.proofs.NameLemmas.{object_cmp-total, object_cmp-equal, queue_cmp-total, queue_cmp-equal}
 use Rattle.cloud_trait.proofs.StateLemmas.{put_at_same, put_at_other}
-use Rattle.cloud_facts.specs.Book.Tally.{at, at2}
+use Rattle.cloud_facts.specs.Book.Tally.{at2}
 use Rattle.cloud_facts.specs.Book.Telling.{queue_of, last_or}
 use Rattle.cloud_facts.proofs.Chains.Names.{last_added}
 

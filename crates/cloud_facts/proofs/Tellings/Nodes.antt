@@ -2,27 +2,22 @@
 use Rattle.std.proofs.Common.{◌≡◌, ◌≢◌, ◌<◌, false, ℕ, zero, suc, List, [], ◌∷◌, ◌++◌, map, Some, refl, sym, ap, ◌∙◌, arith}
 use Rattle.db_base.specs.Cursor.{number_of}
 use Rattle.db_base.specs.declared.names.ObjName.TheVariants as object
-use Rattle.cloud_trait.specs.Caller.{Caller}
-use Rattle.cloud_trait.specs.State.{CloudState, landed}
+use Rattle.cloud_facts.specs.Words.{ObjName, Entry, Leaf, Inner, Tree, Version, CloudState, Caller, Book, Link, Node, Leafy, Branch, at, IsIn, nodes_of, roots_of, store_of}
+use Rattle.cloud_trait.specs.State.{landed}
 use Rattle.cloud_trait.specs.Names.{object_cmp}
-use Rattle.cloud_trait.specs.declared.state.Version.{Version}
 use Rattle.cloud_trait.proofs.NameLemmas.{object_cmp-equal}
 use Rattle.cloud_trait.proofs.StateLemmas.{put_at_by}
-use Rattle.db_base.specs.declared.names.ObjName.{ObjName}
-use Rattle.leaf_view.specs.Leaf.{Leaf}
 use Rattle.leaf_view.specs.Lookup.{empty_leaf, value_of, number_of as done_number}
-use Rattle.node_codec.specs.Inner.{Inner, IsInner}
-use Rattle.node_codec.specs.Tree.{Tree, IsTree, empty_tree}
-use Rattle.report_types.specs.declared.entry.Entry.{Entry}
-use Rattle.cloud_facts.specs.Book.Book.{Book, Link, with_pieces}
+use Rattle.node_codec.specs.Inner.{IsInner}
+use Rattle.node_codec.specs.Tree.{IsTree, empty_tree}
+use Rattle.cloud_facts.specs.Book.Book.{with_pieces}
 use Rattle.cloud_facts.specs.Book.Effects.{after_page, after_inner, after_root, after_raise}
-use Rattle.cloud_facts.specs.Book.Records.{IsIn}
-use Rattle.cloud_facts.specs.Book.Tally.{Node, Leafy, Branch, at, at2}
-use Rattle.cloud_facts.specs.Book.Telling.{last_or, root_in, node_in, with_bytes, is_gone, gone_of, leaf_in, newest_leaf, page_from, page_for, leaf_for, nodes_of, roots_of, newest_root, cursor_of}
+use Rattle.cloud_facts.specs.Book.Tally.{at2}
+use Rattle.cloud_facts.specs.Book.Telling.{last_or, root_in, node_in, with_bytes, is_gone, gone_of, leaf_in, newest_leaf, page_from, page_for, leaf_for, newest_root, cursor_of}
 use Rattle.cloud_facts.specs.Decoding.Kinds.{IsNode}
 use Rattle.cloud_facts.proofs.Decoding.Reading.{node_reads, root_reads}
 use Rattle.cloud_facts.proofs.Decoding.Versions.{bytes_added, there_added}
-use Rattle.cloud_facts.specs.Tellings.Told.{store_of, Tells, own_of}
+use Rattle.cloud_facts.specs.Tellings.Told.{Tells, own_of}
 use Rattle.cloud_facts.proofs.Tellings.Easy.{alike}
 use Rattle.cloud_facts.proofs.Tellings.Names.{put_page, put_tree, at_image, at2_image, at2_agree, at2_same, at2_beside, map_added}
 use Rattle.cloud_facts.proofs.Tellings.Pages.{never_goes}

@@ -4,12 +4,10 @@ use Rattle.std.specs.Prelude.{slice_get, unwrap_or, not, ◌&&◌}
 use Rattle.std.specs.List.{AllByRecursion}
 use Rattle.std.proofs.lemmas.Bool.{and_parts, not-true}
 use Rattle.byte_format.specs.Order.{bytes_below, below_bound}
-use Rattle.leaf_view.specs.Leaf.{Leaf}
+use Rattle.cloud_facts.specs.Words.{Leaf, Link, Node, Leafy, Branch, IsIn, StandsAt}
 use Rattle.leaf_view.specs.Lookup.{empty_leaf, holds}
 use Rattle.node_codec.proofs.NodeLemmas.{not_below_empty}
-use Rattle.cloud_facts.specs.Book.Book.{Link}
-use Rattle.cloud_facts.specs.Book.Records.{StandsAt, IsIn}
-use Rattle.cloud_facts.specs.Book.Tally.{Node, Leafy, Branch, version_of, low_of, high_of, right_of as right_page}
+use Rattle.cloud_facts.specs.Book.Tally.{version_of, low_of, high_of, right_of as right_page}
 use Rattle.cloud_facts.specs.Book.Telling.{last_or, leaf_in, page_from}
 use Rattle.cloud_facts.specs.Chains.Chain.{AreLevels, AreVersions, AreNewest}
 use Rattle.cloud_facts.specs.Chains.Links.{first_link, newest_node, IsOfLevel, page_after, low_after}

@@ -4,26 +4,19 @@ use Rattle.std.specs.Prelude.{IsSorted, slice_get}
 use Rattle.std.proofs.lemmas.Bool.{ne_eqb, cases_lt}
 use Rattle.std.specs.List.{AllByRecursion}
 use Rattle.db_base.specs.Change.{key_of}
-use Rattle.db_base.specs.Ids.{IsTree, IsClient}
+use Rattle.cloud_facts.specs.Words.{IsClient, IsTree, Entry, PuItem, Leaf, Inner, Tree, CloudState, Caller, Book, Link, Node, Leafy, Branch, IsIn, nodes_of, roots_of, store_of}
 use Rattle.db_base.specs.declared.names.ObjName.TheVariants as object
-use Rattle.cloud_trait.specs.Caller.{Caller}
-use Rattle.cloud_trait.specs.State.{CloudState}
 use Rattle.leaf_edit.specs.Applied.{applied}
 use Rattle.leaf_edit.specs.Raised.{greatest_of, raised}
-use Rattle.leaf_view.specs.Leaf.{Leaf, IsLeaf}
+use Rattle.leaf_view.specs.Leaf.{IsLeaf}
 use Rattle.leaf_view.specs.Lookup.{empty_leaf, holds, number_of as done_number}
-use Rattle.log_codec.specs.declared.record.PuItem.{PuItem}
-use Rattle.node_codec.specs.Inner.{Inner, IsInner, node_of_root, first_low_of}
+use Rattle.node_codec.specs.Inner.{IsInner, node_of_root, first_low_of}
 use Rattle.node_codec.specs.Node.{Entry as NodeEntry}
-use Rattle.node_codec.specs.Tree.{Tree}
-use Rattle.report_types.specs.declared.entry.Entry.{Entry}
 use Rattle.log_codec.specs.Order.{item_cmp}
 use Rattle.split_plan.specs.Part.{part_of_node, entry_key}
-use Rattle.cloud_facts.specs.Book.Book.{Book, Link}
 use Rattle.cloud_facts.specs.Book.Premises.{Takes, IsItemOf, IsConsecutive, LandsFirst}
-use Rattle.cloud_facts.specs.Book.Records.{IsIn}
-use Rattle.cloud_facts.specs.Book.Tally.{Node, Leafy, Branch, version_of, low_of, right_of as right_page, high_of}
-use Rattle.cloud_facts.specs.Book.Telling.{tally_of, last_or, newest_leaf, nodes_of, gone_of, roots_of, newest_root, cursor_of}
+use Rattle.cloud_facts.specs.Book.Tally.{version_of, low_of, right_of as right_page, high_of}
+use Rattle.cloud_facts.specs.Book.Telling.{tally_of, last_or, newest_leaf, gone_of, newest_root, cursor_of}
 use Rattle.cloud_facts.specs.Chains.Chain.{ChainHolds, IsChained, IsUnlinked}
 use Rattle.cloud_facts.specs.Chains.Landing.{LandsOn, LandsInner, Raises}
 use Rattle.cloud_facts.specs.Chains.Links.{first_link, link_of, newest_node, NodeNames}
@@ -36,7 +29,7 @@ use Rattle.cloud_facts.proofs.Decoding.Versions.{none_there}
 use Rattle.cloud_facts.specs.Chains.Cuts.{links_on, HaveLanded, inner_node}
 use Rattle.cloud_facts.specs.Tellings.Pieces.{first_part, right_of, node_parts, left_inner, node_links, left_leaf}
 use Rattle.cloud_facts.specs.Tellings.Taking.{AreClients, IsLinked, LandsTaken, taking_of}
-use Rattle.cloud_facts.specs.Tellings.Told.{store_of, own_of}
+use Rattle.cloud_facts.specs.Tellings.Told.{own_of}
 use Rattle.cloud_facts.proofs.Tellings.Fences.{Rises, all_parts, cut_common, cut_version, cut_lands, cut_links, level_pieces, level_ascends, pages_distinct}
 use Rattle.cloud_facts.proofs.Tellings.Finding.{found_before}
 use Rattle.cloud_facts.proofs.Tellings.Laws.{taken_ranges, taken_table}

@@ -7,19 +7,16 @@ use Rattle.byte_format.specs.Format.{in_range, option_fits}
 use Rattle.byte_format.specs.HighKey.{key_above, high_key}
 use Rattle.byte_format.specs.Order.{bytes_below, below_bound}
 use Rattle.db_base.specs.declared.names.ObjName.TheVariants as object
-use Rattle.cloud_trait.specs.State.{CloudState}
-use Rattle.cloud_trait.specs.declared.state.Version.{Version}
+use Rattle.cloud_facts.specs.Words.{Leaf, Inner, Version, CloudState, Node, Leafy, Branch, IsIn, nodes_of}
 use Rattle.leaf_view.specs.Fits.{IsHigh, IsDone}
-use Rattle.leaf_view.specs.Leaf.{Leaf, IsLeaf}
+use Rattle.leaf_view.specs.Leaf.{IsLeaf}
 use Rattle.leaf_view.specs.Lookup.{empty_leaf, holds}
 use Rattle.leaf_view.specs.declared.done.Done.{Done}
 use Rattle.leaf_view.proofs.Split.{leaf_fits}
-use Rattle.node_codec.specs.Inner.{Inner, IsInner}
+use Rattle.node_codec.specs.Inner.{IsInner}
 use Rattle.node_codec.proofs.InnerLemmas.{inner_fits}
 use Rattle.split_plan.specs.Part.{LeafPart, leaf_of_part, NodePart, node_of_part}
-use Rattle.cloud_facts.specs.Book.Tally.{Node, Leafy, Branch}
-use Rattle.cloud_facts.specs.Book.Telling.{last_or, node_in, with_bytes, leaf_in, newest_leaf, nodes_of}
-use Rattle.cloud_facts.specs.Book.Records.{IsIn}
+use Rattle.cloud_facts.specs.Book.Telling.{last_or, node_in, with_bytes, leaf_in, newest_leaf}
 use Rattle.cloud_facts.proofs.Chains.Pieces.{in_first, not_itself}
 use Rattle.cloud_facts.specs.Decoding.Decodes.{Decodes}
 use Rattle.cloud_facts.specs.Decoding.Kinds.{IsNode, AreOfKind}

@@ -3,28 +3,16 @@ use Rattle.std.specs.Prelude.{ℕ, ◌≡◌, ◌≤◌, ◌⊎◌, List, [], �
 use Rattle.cloud_facts.specs.Calls.Links.{LinksBy, GoneBy}
 use Rattle.cloud_facts.specs.Calls.Looks.{audited_at, audit_of}
 use Rattle.cloud_facts.specs.Calls.Others.{Passes, IsOfPart}
-use Rattle.cloud_facts.specs.Calls.Standing.{StandsUnder}
-use Rattle.cloud_trait.specs.declared.answer.Answer.{Answer}
-use Rattle.cloud_trait.specs.Ask.{Ask}
-use Rattle.cloud_trait.specs.Caller.{Caller}
-use Rattle.cloud_trait.specs.Claim.{Claim, Lasts}
-use Rattle.cloud_trait.specs.State.{CloudState, called, newest}
-use Rattle.db_base.specs.Ids.{IsClient}
+use Rattle.cloud_facts.specs.Words.{IsClient, Entry, AtomicRec, Head, Answer, CloudState, called, newest, Caller, Claim, Lasts, Ask, Book, Store, at, IsIn, store_of, StandsUnder}
 use Rattle.db_base.specs.declared.names.Lock.TheVariants as lock
-use Rattle.head_codec.specs.declared.head.Head.{Head}
 use Rattle.head_codec.specs.declared.head.Phase.TheVariants.{Settled}
 use Rattle.head_codec.specs.declared.lists.Pending.{Pending}
 use Rattle.history.specs.Audited.{Audited}
 use Rattle.cloud_facts.specs.Homes.Homes.{Home, Part, Away, AtHome, Opens, Parts, IsAlone, HomesHold}
 use Rattle.cloud_facts.specs.Leases.Guards.{IsGuarded}
 use Rattle.cloud_facts.specs.Leases.Leases.{Owns, KeptBy, GainedBy, RenewedTo}
-use Rattle.log_codec.specs.declared.record.AtomicRec.{AtomicRec}
-use Rattle.report_types.specs.declared.entry.Entry.{Entry}
-use Rattle.cloud_facts.specs.Book.Book.{Book}
 use Rattle.cloud_facts.specs.Book.Premises.{IsAppliedEntry}
-use Rattle.cloud_facts.specs.Book.Records.{IsIn}
-use Rattle.cloud_facts.specs.Book.Tally.{Tally, Store, at}
-use Rattle.cloud_facts.specs.Tellings.Told.{store_of}
+use Rattle.cloud_facts.specs.Book.Tally.{Tally}
 
 -- ---- an open client
 

@@ -1,11 +1,8 @@
 -- What looks before and after a put show of it, and what an audit takes of that.
 use Rattle.std.specs.Prelude.{ℕ, Bool, false, not, ◌&&◌, if◌then◌else◌, List, Option, Some, None}
-use Rattle.db_base.specs.declared.names.ObjName.{ObjName}
-use Rattle.cloud_trait.specs.Ask.{Ask, PutHeld}
+use Rattle.cloud_facts.specs.Words.{ObjName, Entry, Ask, PutHeld, Book}
 use Rattle.cloud_trait.specs.Bench.{has_bytes}
 use Rattle.history.specs.Audited.{Audited}
-use Rattle.report_types.specs.declared.entry.Entry.{Entry}
-use Rattle.cloud_facts.specs.Book.Book.{Book}
 use Rattle.cloud_facts.specs.Book.Records.{entries_of}
 
 -- the newest bytes of each object

@@ -2,16 +2,14 @@
 use Rattle.std.specs.Prelude.{ℕ, ◌≡◌, ◌<◌, ◌⊎◌, List}
 use Rattle.cloud_facts.specs.Calls.Links.{SameLinks, SameGone}
 use Rattle.cloud_facts.specs.Calls.Pages.{IsLeafPage, IsTreePage}
-use Rattle.cloud_trait.specs.Claim.{Claim, Lasts}
+use Rattle.cloud_facts.specs.Words.{AtomicRec, Head, Claim, Lasts, Store, IsIn}
 use Rattle.db_base.specs.declared.names.Lock.TheVariants as lock
-use Rattle.head_codec.specs.declared.head.Head.{Head}
 use Rattle.cloud_facts.specs.Homes.Homes.{Part, Away, AtHome, Opens}
 use Rattle.cloud_facts.specs.Lefts.Left.{IsWaiting}
-use Rattle.log_codec.specs.declared.record.AtomicRec.{AtomicRec}
 use Rattle.cloud_facts.specs.Book.Growth.{Grows}
 use Rattle.cloud_facts.specs.Book.Messages.{IsDeleted}
-use Rattle.cloud_facts.specs.Book.Records.{IsIn, IsApplied}
-use Rattle.cloud_facts.specs.Book.Tally.{Tally, Store}
+use Rattle.cloud_facts.specs.Book.Records.{IsApplied}
+use Rattle.cloud_facts.specs.Book.Tally.{Tally}
 
 -- a record was sent on to its queue: it is applied, or it waits there
 abbrev pub WasSentOn : Tally → AtomicRec → Type 0

@@ -1,9 +1,7 @@
 -- Pages by what their newest versions are.
 use Rattle.std.specs.Prelude.{ℕ, ◌≡◌, ◌≢◌, ◌⊎◌, List, []}
 use Rattle.cloud_facts.specs.Chains.Links.{newest_node}
-use Rattle.leaf_view.specs.Leaf.{Leaf}
-use Rattle.node_codec.specs.Inner.{Inner}
-use Rattle.cloud_facts.specs.Book.Tally.{Node, Leafy, Branch}
+use Rattle.cloud_facts.specs.Words.{Leaf, Inner, Node, Leafy, Branch}
 
 -- the newest version of a page is a leaf; of absent pages page 1 alone is one
 pub record IsLeafPage (nodes : ℕ → List Node) (page : ℕ) : Type 0 where

@@ -3,9 +3,8 @@ use Rattle.std.specs.Prelude.{ℕ, ◌≡◌, List}
 use Rattle.history.specs.Fold.{fold, of_tree}
 use Rattle.history.specs.Legal.{IsLegal}
 use Rattle.cloud_facts.specs.Lefts.Left.{NothingLeft}
-use Rattle.report_types.specs.declared.entry.Entry.{Entry}
-use Rattle.cloud_facts.specs.Book.Records.{StandsAt, entries_of}
-use Rattle.cloud_facts.specs.Book.Tally.{Store}
+use Rattle.cloud_facts.specs.Words.{Entry, Store, StandsAt}
+use Rattle.cloud_facts.specs.Book.Records.{entries_of}
 
 -- the order is legal for the committed entries, the value of each key is what it comes to, and where nothing is left it holds all
 pub record IsReportable (st : Store) (tree : ℕ) : Type 0 where

@@ -1,14 +1,10 @@
 -- Which lock guards an object, and what a session's call may touch.
 use Rattle.std.specs.Prelude.{ℕ, ◌≡◌, ◌≤◌, ◌⊎◌, ◌==◌, if◌then◌else◌, List, [], ◌∷◌, ◌++◌, Option, Some, None, IfSome, IsSomeAnd}
-use Rattle.db_base.specs.declared.names.Lock.{Lock}
+use Rattle.cloud_facts.specs.Words.{ObjName, Lock, Leaf, Version, CloudState, newest, Claim, Lasts, Ask, Get, GetHeld, PutHeld, Send, Receive, Delete, Take, Renew, Release}
 use Rattle.db_base.specs.declared.names.Lock.TheVariants as lock
-use Rattle.db_base.specs.declared.names.ObjName.{ObjName}
 use Rattle.db_base.specs.declared.names.ObjName.TheVariants as object
-use Rattle.cloud_trait.specs.Ask.{Ask, Get, GetHeld, PutHeld, ListHeld, RemoveHeld, Send, Receive, Delete, Take, Renew, Release}
-use Rattle.cloud_trait.specs.declared.state.Version.{Version}
-use Rattle.cloud_trait.specs.Claim.{Claim, Lasts}
-use Rattle.cloud_trait.specs.State.{CloudState, newest}
-use Rattle.leaf_view.specs.Leaf.{Leaf, leaf}
+use Rattle.cloud_trait.specs.Ask.{ListHeld, RemoveHeld}
+use Rattle.leaf_view.specs.Leaf.{leaf}
 use Rattle.byte_format.specs.Whole.{whole}
 use Rattle.std.specs.Result.{result_ok}
 use Rattle.cloud_facts.specs.Leases.Leases.{Hands, Holds}

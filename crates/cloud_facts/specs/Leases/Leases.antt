@@ -1,14 +1,10 @@
 -- The leases that sessions have in hand, and the locks.
 use Rattle.std.specs.Prelude.{ℕ, ◌≡◌, ◌≢◌, ◌<◌, ◌≤◌, ◌⊎◌, List, slice_get, Some}
 use Rattle.std.specs.Option.{IfSome}
-use Rattle.db_base.specs.declared.names.Lock.{Lock}
-use Rattle.cloud_trait.specs.declared.answer.Answer.{Answer}
+use Rattle.cloud_facts.specs.Words.{Lock, Answer, CloudState, Caller, Claim, Lasts, Ask, Get, GetHeld, PutHeld, Send, Receive, Delete, Take, Renew, Release}
 use Rattle.cloud_trait.specs.declared.answer.Answer.TheVariants.{Given}
 use Rattle.cloud_trait.specs.declared.state.Hold.{Hold}
-use Rattle.cloud_trait.specs.Ask.{Ask, Get, GetHeld, PutHeld, ListHeld, RemoveHeld, Send, Receive, Delete, Take, Renew, Release}
-use Rattle.cloud_trait.specs.Caller.{Caller}
-use Rattle.cloud_trait.specs.Claim.{Claim, Lasts}
-use Rattle.cloud_trait.specs.State.{CloudState}
+use Rattle.cloud_trait.specs.Ask.{ListHeld, RemoveHeld}
 use Rattle.cloud_trait.specs.Weather.{RenewsBoth}
 
 -- the leases in hand of each session

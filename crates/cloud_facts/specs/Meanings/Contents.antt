@@ -1,11 +1,9 @@
 -- The leaves of a tree by its links, and what a report reads of them.
 use Rattle.std.specs.Prelude.{ℕ, ◌≡◌, List, ◌++◌, map, slice_get, Option, None}
-use Rattle.cloud_trait.specs.State.{CloudState}
+use Rattle.cloud_facts.specs.Words.{Leaf, CloudState, Link}
 use Rattle.db_base.specs.Value.{Value}
 use Rattle.leaf_view.specs.Fits.{Ascend}
-use Rattle.leaf_view.specs.Leaf.{Leaf}
 use Rattle.replay_meaning.specs.Right.{stored_below, value_at}
-use Rattle.cloud_facts.specs.Book.Book.{Link}
 use Rattle.cloud_facts.specs.Chains.Links.{page_after}
 use Rattle.replay_meaning.specs.Chain.{AreLeaves, records_of}
 use Rattle.replay_meaning.specs.Index.{Finds}

@@ -1,12 +1,9 @@
 -- What the bytes of a get at a place of a walk spell.
 use Rattle.std.specs.Prelude.{ℕ, ◌≡◌, List}
-use Rattle.cloud_trait.specs.State.{CloudState}
-use Rattle.leaf_view.specs.Leaf.{Leaf, IsLeaf}
-use Rattle.node_codec.specs.Inner.{Inner, IsInner}
-use Rattle.node_codec.specs.Tree.{Tree, IsTree}
-use Rattle.cloud_facts.specs.Book.Records.{IsIn}
-use Rattle.cloud_facts.specs.Book.Tally.{Leafy, Branch}
-use Rattle.cloud_facts.specs.Book.Telling.{nodes_of, roots_of}
+use Rattle.cloud_facts.specs.Words.{Leaf, Inner, Tree, CloudState, Leafy, Branch, IsIn, nodes_of, roots_of}
+use Rattle.leaf_view.specs.Leaf.{IsLeaf}
+use Rattle.node_codec.specs.Inner.{IsInner}
+use Rattle.node_codec.specs.Tree.{IsTree}
 
 -- the bytes spell a leaf of the tree's page with this low key
 pub record IsGotLeaf (s : CloudState) (tree page : ℕ) (low bytes : List ℕ) : Type 0 where

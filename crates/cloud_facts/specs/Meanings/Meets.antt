@@ -2,9 +2,8 @@
 use Rattle.std.specs.Prelude.{ℕ, suc, ◌≡◌, ◌<◌, ◌⊎◌, true, false, List, Some}
 use Rattle.byte_format.specs.Order.{bytes_below}
 use Rattle.node_codec.specs.Node.{Entry, child_of}
-use Rattle.cloud_facts.specs.Book.Book.{Link}
-use Rattle.cloud_facts.specs.Book.Records.{IsIn}
-use Rattle.cloud_facts.specs.Book.Tally.{Node, right_of, high_of}
+use Rattle.cloud_facts.specs.Words.{Link, Node, IsIn}
+use Rattle.cloud_facts.specs.Book.Tally.{right_of, high_of}
 use Rattle.cloud_facts.specs.Chains.Links.{link_of}
 
 -- the low key of a link is not above the key

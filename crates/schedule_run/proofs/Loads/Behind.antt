@@ -7,25 +7,18 @@ use Rattle.client_work.specs.declared.work.Work.{Work}
 use Rattle.client_work.specs.declared.work.Work.TheVariants.{Closed, Idle, Opening, Committing, Reading, Scanning, Looking, Paging, Folding, Closing, Renewing, Settling, Sweeping, Broken}
 use Rattle.cloud_facts.proofs.Book.Places.{get_map, get_within, in_front}
 use Rattle.cloud_facts.proofs.Numbers.Lists.{map_there, filter_there, filter_at}
-use Rattle.cloud_facts.specs.Book.Records.{IsIn}
-use Rattle.cloud_trait.specs.Caller.{Caller}
+use Rattle.cloud_facts.specs.Words.{ObjName, Entry, Head, Version, Posted, CloudState, Caller, Seen, IsIn}
 use Rattle.cloud_trait.specs.Growth.{BeginsWith}
-use Rattle.cloud_trait.specs.Seen.{Seen}
-use Rattle.cloud_trait.specs.State.{CloudState, version_at}
+use Rattle.cloud_trait.specs.State.{version_at}
 use Rattle.cloud_trait.specs.Upto.{AgreeUpto, IsUpto, messages_upto, trace_upto, posts_of}
 use Rattle.cloud_trait.specs.declared.state.Landing.{Landing}
-use Rattle.cloud_trait.specs.declared.state.Posted.{Posted}
-use Rattle.cloud_trait.specs.declared.state.Version.{Version}
-use Rattle.db_base.specs.declared.names.ObjName.{ObjName}
 use Rattle.db_base.specs.declared.names.ObjName.TheVariants as object
 use Rattle.db_base.specs.declared.names.QueueName.TheVariants.{Atomic}
-use Rattle.head_codec.specs.declared.head.Head.{Head}
 use Rattle.history.specs.Audited.{committed_entry}
 use Rattle.log_codec.specs.Atomic.{atomic_of}
 use Rattle.recover_run.specs.declared.home.Home.{Home}
 use Rattle.replay_meaning.specs.Kinds.{IsOfKind, LandsOpen}
 use Rattle.replay_meaning.specs.Standing.{Line, Closed as Shut, Idle as Resting, Standing, standing}
-use Rattle.report_types.specs.declared.entry.Entry.{Entry}
 use Rattle.session_facts.proofs.Lines.Committed.{slice_get-append_left}
 use Rattle.session_facts.proofs.Rows.Once.{at_place, lands_same}
 use Rattle.session_facts.specs.Lines.Facts.{IsPlaced, IsPlacedAt, WorksAs}

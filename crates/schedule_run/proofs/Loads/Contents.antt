@@ -1,19 +1,14 @@
 -- What a tree has where nothing of it is left and all that was committed of it are inserts of distinct keys.
 use Rattle.std.proofs.Common.{◌≡◌, ℕ, Bool, List, None, refl, sym, ap, subst, ◌∙◌}
 use Rattle.cloud_facts.proofs.Meanings.Reports.{leaves_in, store_reads}
-use Rattle.cloud_facts.specs.Book.Book.{Book}
+use Rattle.cloud_facts.specs.Words.{IsTree, Entry, CloudState, Book, Store, store_of}
 use Rattle.cloud_facts.specs.Book.Records.{entries_of}
-use Rattle.cloud_facts.specs.Book.Tally.{Store}
 use Rattle.cloud_facts.specs.Landings.Reporting.{IsReportable}
 use Rattle.cloud_facts.specs.Meanings.Contents.{IsRead}
-use Rattle.cloud_facts.specs.Tellings.Told.{store_of}
-use Rattle.cloud_trait.specs.State.{CloudState}
-use Rattle.db_base.specs.Ids.{IsTree}
 use Rattle.history.specs.Audited.{Audited}
 use Rattle.history.specs.Fold.{of_tree}
 use Rattle.history.specs.Legal.{IsLegal}
 use Rattle.leaf_view.specs.Fits.{Ascend}
-use Rattle.report_types.specs.declared.entry.Entry.{Entry}
 use Rattle.report_types.specs.declared.stored.Stored.{Stored}
 use Rattle.replay_meaning.specs.Committed.{committed}
 use Rattle.replay_meaning.specs.Right.{HoldsAll, stored_below}

@@ -1,30 +1,23 @@
 -- The ATOMIC messages of transactions that were opened are the inserts of the records, by transaction and index.
 use Rattle.std.proofs.Common.{◌≡◌, ◌≤◌, ◌<◌, ◌+◌, ◌*◌, ◌-◌, ℕ, zero, suc, List, [], ◌∷◌, length, Some, refl, sym, ap, subst, ◌∙◌, arith}
 use Rattle.std.specs.Prelude.{slice_get}
-use Rattle.cloud_facts.specs.Book.Book.{Book}
+use Rattle.cloud_facts.specs.Words.{Entry, AtomicRec, Head, Posted, CloudState, Book, Store, IsIn, StandsAt, store_of}
 use Rattle.cloud_facts.specs.Book.Messages.{IsLogMessage}
-use Rattle.cloud_facts.specs.Book.Records.{StandsAt, IsIn, entry_of, entries_of}
-use Rattle.cloud_facts.specs.Book.Tally.{Store}
+use Rattle.cloud_facts.specs.Book.Records.{entry_of, entries_of}
 use Rattle.cloud_facts.specs.Lefts.Left.{AreLogged as AreAllLogged}
-use Rattle.cloud_facts.specs.Tellings.Told.{store_of}
 use Rattle.cloud_facts.proofs.Book.Places.{get_map}
 use Rattle.cloud_facts.proofs.Numbers.Lists.{map_there, get_same}
-use Rattle.cloud_trait.specs.State.{CloudState}
 use Rattle.cloud_trait.specs.Traced.{IsTraced}
 use Rattle.cloud_trait.specs.declared.state.Landing.{Landing}
-use Rattle.cloud_trait.specs.declared.state.Posted.{Posted}
 use Rattle.db_base.specs.Change.{key_of}
 use Rattle.db_base.specs.declared.names.QueueName.TheVariants.{Atomic}
-use Rattle.head_codec.specs.declared.head.Head.{Head}
 use Rattle.history.specs.Audited.{committed_entry}
 use Rattle.load_plan.specs.Events.{Placed, parts}
 use Rattle.log_codec.proofs.AtomicLaws.{atomic_of-some}
 use Rattle.log_codec.specs.Atomic.{atomic_of}
-use Rattle.log_codec.specs.declared.record.AtomicRec.{AtomicRec}
 use Rattle.replay_meaning.specs.Committed.{changes_of_row, committed}
 use Rattle.replay_meaning.specs.Kinds.{LandsOpen}
 use Rattle.replay_meaning.specs.Standing.{Line}
-use Rattle.report_types.specs.declared.entry.Entry.{Entry}
 use Rattle.session_facts.proofs.Machines.Commits.Distinct.{distinct_places}
 use Rattle.session_facts.specs.Lines.Facts.{CloudStands}
 use Rattle.session_facts.specs.Sessions.Knows.{Sessions, SessionsStand}

@@ -5,17 +5,8 @@ use Rattle.client_work.specs.declared.answer.Answer.TheVariants as answer
 use Rattle.client_work.specs.declared.shown.Shown.{Shown}
 use Rattle.client_work.specs.declared.work.Work.{Work}
 use Rattle.client_work.specs.declared.work.Work.TheVariants as work
-use Rattle.cloud_facts.specs.Book.Book.{Book}
-use Rattle.cloud_facts.specs.Book.Records.{StandsAt, IsIn}
-use Rattle.cloud_facts.specs.Book.Tally.{Store}
+use Rattle.cloud_facts.specs.Words.{CommitAnswer, Entry, AtomicRec, Answer as Reply, Ended, CloudState, Caller, Seen, Next, Goes, Ends, Stops, Book, Store, IsIn, StandsAt, store_of}
 use Rattle.cloud_facts.specs.Homes.Homes.{Home, Part}
-use Rattle.cloud_facts.specs.Tellings.Told.{store_of}
-use Rattle.cloud_trait.specs.Caller.{Caller}
-use Rattle.cloud_trait.specs.Machine.{Next, Goes, Ends, Stops}
-use Rattle.cloud_trait.specs.Seen.{Seen}
-use Rattle.cloud_trait.specs.State.{CloudState}
-use Rattle.cloud_trait.specs.declared.answer.Answer.{Answer as Reply}
-use Rattle.cloud_trait.specs.declared.turn.Turn.TheVariants.{Ended}
 use Rattle.commit_run.specs.Draft.{Draft}
 use Rattle.commit_run.specs.Run.{Run, home_of, wrote, walked, next_at as run_next_at, run_next}
 use Rattle.commit_run.specs.declared.hand.Hand.{Hand}
@@ -23,11 +14,8 @@ use Rattle.commit_run.specs.declared.hand.Hand.TheVariants.{Writes, First, Chang
 use Rattle.commit_writes.specs.Writing.{Writing, writing_next}
 use Rattle.commit_writes.proofs.Outcomes as written
 use Rattle.commit_writes.proofs.Outcomes.{Comes, comes}
-use Rattle.db_base.specs.declared.trouble.CommitAnswer.{CommitAnswer}
 use Rattle.db_base.specs.declared.trouble.CommitAnswer.TheVariants.{Committed, NotCommitted, InDoubt, CommittedOpen}
-use Rattle.log_codec.specs.declared.record.AtomicRec.{AtomicRec}
 use Rattle.page_cache.specs.Cache.{Cache}
-use Rattle.report_types.specs.declared.entry.Entry.{Entry}
 use Rattle.session_facts.proofs.Machines.CommitRuns.Stays.{RunsFor, IsRefusal, turns}
 use Rattle.session_facts.specs.Machines.CommitRuns.Knows.{KnowsHand, KnowsRun}
 use Rattle.session_facts.specs.Machines.Commits.Knows.{attempt_of, HasCommitted, KnowsCommitAt}

@@ -3,18 +3,15 @@ use Rattle.std.proofs.Common.{◌≡◌, ◌+◌, ◌-◌, ◌⊎◌, inl, inr, 
 use Rattle.std.specs.Prelude.{slice_get, All, ◌==◌}
 use Rattle.std.specs.List.{flat_map}
 use Rattle.std.specs.Option.{option_and_then}
-use Rattle.cloud_facts.specs.Book.Records.{StandsAt, IsIn}
+use Rattle.cloud_facts.specs.Words.{ObjName, Entry, Head, Version, CloudState, IsIn, StandsAt}
 use Rattle.cloud_facts.proofs.Book.Places.{in_either, in_front, in_behind, get_map}
 use Rattle.cloud_facts.proofs.Numbers.Lists.{map_there, filter_there}
-use Rattle.cloud_trait.specs.State.{CloudState, version_at}
+use Rattle.cloud_trait.specs.State.{version_at}
 use Rattle.cloud_trait.specs.Traced.{IsTraced, is_object, object_rows, version_rows}
 use Rattle.cloud_trait.specs.declared.state.Landing.{Landing}
 use Rattle.cloud_trait.specs.declared.state.Site.{Site}
 use Rattle.cloud_trait.specs.declared.state.Site.TheVariants.{Object, Queue}
-use Rattle.cloud_trait.specs.declared.state.Version.{Version}
-use Rattle.db_base.specs.declared.names.ObjName.{ObjName}
 use Rattle.db_base.specs.declared.names.ObjName.TheVariants as object
-use Rattle.head_codec.specs.declared.head.Head.{Head}
 use Rattle.head_codec.specs.declared.head.Phase.{Phase}
 use Rattle.head_codec.specs.declared.head.Phase.TheVariants as phase
 use Rattle.head_codec.specs.Spelling.{head_of}
@@ -22,7 +19,6 @@ use Rattle.history.specs.Audited.{committed_entry}
 use Rattle.replay_meaning.specs.Committed.{changes_at, changes_of_row, entries_of_phase, entries_of_head, entries_of_bytes, site_entries, row_entries, committed_by, committed}
 use Rattle.replay_meaning.specs.Kinds.{CommitsCount, MayPutPhase, MayPutHead, MayPutBytes, IsOfKindAt, IsOfKind, LandsOpen}
 use Rattle.replay_meaning.specs.Standing.{Line, standing_of_row}
-use Rattle.report_types.specs.declared.entry.Entry.{Entry}
 use Rattle.session_facts.proofs.Rows.Once.{at_place}
 use Rattle.txn_buffer.specs.Noted.{Noted}
 use Rattle.schedule_run.proofs.Loads.Lines.{CommitsParts}

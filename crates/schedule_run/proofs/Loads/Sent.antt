@@ -9,32 +9,23 @@ use Rattle.cloud_facts.proofs.Book.Names.{at_same}
 use Rattle.cloud_facts.proofs.Book.Places.{get_front, get_map, in_front}
 use Rattle.cloud_facts.proofs.Numbers.Lists.{map_there}
 use Rattle.cloud_facts.specs.Book.Messages.{IsLogMessage}
-use Rattle.cloud_facts.specs.Book.Records.{StandsAt, IsIn, entry_of, entries_of}
+use Rattle.cloud_facts.specs.Words.{CommitAnswer, QueueName, Entry, AtomicRec, Ended, Posted, CloudState, Caller, Seen, Ends, IsIn, StandsAt}
+use Rattle.cloud_facts.specs.Book.Records.{entry_of, entries_of}
 use Rattle.cloud_trait.proofs.RowLemmas.{leaves_grown}
-use Rattle.cloud_trait.specs.Caller.{Caller}
 use Rattle.cloud_trait.specs.Growth.{BeginsWith, HasGrown}
-use Rattle.cloud_trait.specs.Machine.{Ends}
-use Rattle.cloud_trait.specs.Seen.{Seen}
-use Rattle.cloud_trait.specs.State.{CloudState}
 use Rattle.cloud_trait.specs.Upto.{posts_of}
 use Rattle.cloud_trait.specs.Weather.{Leaves}
-use Rattle.cloud_trait.specs.declared.state.Posted.{Posted}
-use Rattle.cloud_trait.specs.declared.turn.Turn.TheVariants.{Ended}
 use Rattle.commit_run.specs.Run.{Run, home_of}
-use Rattle.db_base.specs.declared.names.QueueName.{QueueName}
 use Rattle.db_base.specs.declared.names.QueueName.TheVariants.{Atomic}
-use Rattle.db_base.specs.declared.trouble.CommitAnswer.{CommitAnswer}
 use Rattle.db_base.specs.declared.trouble.CommitAnswer.TheVariants.{Committed, NotCommitted, InDoubt, CommittedOpen}
 use Rattle.db_base.specs.declared.wish.Wish.{Wish}
 use Rattle.event_text.specs.declared.event.Event.{Event}
 use Rattle.history.specs.Audited.{committed_entry}
 use Rattle.log_codec.specs.Atomic.{atomic_of}
-use Rattle.log_codec.specs.declared.record.AtomicRec.{AtomicRec}
 use Rattle.recover_run.specs.declared.home.Home.{Home}
 use Rattle.replay_meaning.specs.Committed.{committed}
 use Rattle.replay_meaning.specs.Standing.{Line, Posture, Working, Committing as CommitTask, session_of, standing}
 use Rattle.reply_text.specs.declared.reply.Reply.TheVariants as reply
-use Rattle.report_types.specs.declared.entry.Entry.{Entry}
 use Rattle.session_facts.proofs.Lines.Acknowledged.{call_commits_on}
 use Rattle.session_facts.proofs.Machines.CommitRuns.Numbers.{RunsAt, run_goes_at}
 use Rattle.session_facts.proofs.Lines.Committed.{committed_line}

@@ -2,15 +2,14 @@
 use Rattle.std.proofs.Common.{◌≡◌, ◌-◌, ◌⊎◌, inl, inr, ℕ, List, [], ◌∷◌, Option, Some, None, refl, sym, ap, ◌∙◌}
 use Rattle.std.specs.Prelude.{All}
 use Rattle.std.proofs.lemmas.List.Elements.{All-head, All-tail}
-use Rattle.cloud_facts.specs.Book.Records.{IsIn}
+use Rattle.cloud_facts.specs.Words.{Entry, Head, CloudState, IsIn}
 use Rattle.cloud_facts.proofs.Book.Places.{in_either}
 use Rattle.cloud_facts.proofs.Numbers.Lists.{map_there}
-use Rattle.cloud_trait.specs.State.{CloudState, version_at}
+use Rattle.cloud_trait.specs.State.{version_at}
 use Rattle.cloud_trait.specs.declared.state.Landing.{Landing}
 use Rattle.cloud_trait.specs.declared.state.Site.{Site}
 use Rattle.cloud_trait.specs.declared.state.Site.TheVariants.{Object, Queue}
 use Rattle.db_base.specs.declared.names.ObjName.TheVariants as object
-use Rattle.head_codec.specs.declared.head.Head.{Head}
 use Rattle.head_codec.specs.declared.head.Phase.{Phase}
 use Rattle.head_codec.specs.declared.head.Phase.TheVariants as phase
 use Rattle.head_codec.specs.Spelling.{head_of}
@@ -18,7 +17,6 @@ use Rattle.history.specs.Audited.{committed_entry}
 use Rattle.replay_meaning.specs.Committed.{changes_at, changes_of_row, entries_of_phase, entries_of_head, entries_of_bytes, site_entries, row_entries, committed_by, committed}
 use Rattle.replay_meaning.specs.Kinds.{MayPutPhase, MayPutHead, MayPutBytes, IsOfKindAt, IsOfKind}
 use Rattle.replay_meaning.specs.Standing.{Line, Posture, Closed, Idle, Broken, Working, Opening, Closing, Renewing, Committing, Reading, Scanning, LookingUp, Paging, Folding, Standing, standing_of_row}
-use Rattle.report_types.specs.declared.entry.Entry.{Entry}
 use Rattle.txn_buffer.specs.Noted.{Noted}
 use Rattle.schedule_run.proofs.Loads.Lines.{CommitsParts, IsLoading}
 

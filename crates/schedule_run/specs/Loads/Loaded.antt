@@ -1,9 +1,6 @@
 -- What a load of a dump leaves in a cloud.
 use Rattle.std.specs.Prelude.{ℕ, zero, suc, ◌≡◌, ◌+◌, ◌/◌, ◌%◌, List, [], ◌∷◌, Some, slice_get}
-use Rattle.cloud_trait.specs.State.{CloudState}
-use Rattle.cloud_trait.specs.declared.state.Posted.{Posted}
-use Rattle.cloud_trait.specs.declared.state.Version.{Version}
-use Rattle.db_base.specs.Ids.{IsClient, IsTree}
+use Rattle.cloud_facts.specs.Words.{IsClient, IsTree, AtomicRec, Head, Version, Posted, CloudState}
 use Rattle.db_base.specs.declared.names.ObjName.TheVariants.{Head as HeadName}
 use Rattle.db_base.specs.declared.names.QueueName.TheVariants.{Atomic}
 use Rattle.dump_text.specs.Maps.{contents_of}
@@ -11,11 +8,9 @@ use Rattle.dump_text.specs.declared.dump.DumpedTree.{DumpedTree}
 use Rattle.event_text.specs.declared.event.Event.{Event}
 use Rattle.event_text.specs.declared.event.Event.TheVariants.{Commit}
 use Rattle.head_codec.specs.Spelling.{head_of}
-use Rattle.head_codec.specs.declared.head.Head.{Head}
 use Rattle.head_codec.specs.declared.head.Phase.TheVariants.{Open}
 use Rattle.load_plan.specs.Events.{Placed}
 use Rattle.log_codec.specs.Atomic.{atomic_of}
-use Rattle.log_codec.specs.declared.record.AtomicRec.{AtomicRec}
 use Rattle.replay_meaning.specs.Chain.{Walked}
 use Rattle.schedule_run.specs.Loads.Inserts.{insert_of}
 

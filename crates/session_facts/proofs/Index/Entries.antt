@@ -4,14 +4,11 @@ use Rattle.std.specs.Prelude.{◌==◌}
 use Rattle.cloud_facts.proofs.Meanings.Reports.{leaves_in, store_reads}
 use Rattle.cloud_facts.proofs.Landings.ReportLemmas.{reportable}
 use Rattle.cloud_facts.proofs.Numbers.Lists.{filter_there, filter_at}
-use Rattle.cloud_facts.specs.Book.Records.{IsIn}
-use Rattle.cloud_facts.specs.Book.Tally.{Store}
+use Rattle.cloud_facts.specs.Words.{IsTree, Entry, CloudState, Store, IsIn, store_of}
 use Rattle.cloud_facts.specs.Landings.Reporting.{IsReportable}
 use Rattle.cloud_facts.specs.Meanings.Contents.{IsRead}
-use Rattle.cloud_facts.specs.Tellings.Told.{store_of}
-use Rattle.cloud_trait.specs.State.{CloudState}
 use Rattle.db_base.specs.Entry.{entry_bytes, index_insert}
-use Rattle.db_base.specs.Ids.{IsTree, index_of}
+use Rattle.db_base.specs.Ids.{index_of}
 use Rattle.db_base.specs.Key.{IsKey}
 use Rattle.db_base.specs.Value.{Value}
 use Rattle.history.specs.Audited.{Audited}
@@ -21,7 +18,6 @@ use Rattle.replay_meaning.specs.Committed.{committed}
 use Rattle.replay_meaning.specs.Index.{Finds}
 use Rattle.replay_meaning.specs.Right.{HoldsAll}
 use Rattle.replay_meaning.specs.Standing.{Line}
-use Rattle.report_types.specs.declared.entry.Entry.{Entry}
 use Rattle.session_facts.proofs.Index.Once.{finds_once, found_key}
 use Rattle.session_facts.proofs.Index.Folds.{HasAttr, Inserts, attr_from, inserted}
 use Rattle.session_facts.proofs.Index.NewestLeaves.{all_left}

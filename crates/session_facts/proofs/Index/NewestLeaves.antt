@@ -18,10 +18,9 @@ use Rattle.cloud_facts.proofs.Meanings.Finding.{finds}
 use Rattle.cloud_facts.proofs.Meanings.Pages.{leaf_at}
 use Rattle.cloud_facts.proofs.Meanings.Reports.{leaves_in, store_reads, all_leaves, finds_contents}
 use Rattle.cloud_facts.proofs.Meanings.Walking.{IsBefore, ends_at}
-use Rattle.cloud_facts.specs.Book.Book.{Link}
-use Rattle.cloud_facts.specs.Book.Records.{IsIn, key_in}
-use Rattle.cloud_facts.specs.Book.Tally.{Store}
-use Rattle.cloud_facts.specs.Book.Telling.{newest_leaf, nodes_of, gone_of, page_from, roots_of}
+use Rattle.cloud_facts.specs.Words.{IsTree, ObjName, QueueName, Entry, AtomicRec, Leaf, Answer, Version, Posted, CloudState, newest, Caller, Seen, Ask, Get, Next, Goes, Ends, Stops, Deed, Link, Store, IsIn, nodes_of, roots_of, store_of}
+use Rattle.cloud_facts.specs.Book.Records.{key_in}
+use Rattle.cloud_facts.specs.Book.Telling.{newest_leaf, gone_of, page_from}
 use Rattle.cloud_facts.specs.Chains.Gones.{AreKept}
 use Rattle.cloud_facts.proofs.Chains.GoneLemmas.{links_kept}
 use Rattle.cloud_facts.specs.Chains.Chain.{IsChained}
@@ -30,30 +29,18 @@ use Rattle.cloud_facts.specs.Decoding.Decodes.{Decodes}
 use Rattle.cloud_facts.specs.Homes.Homes.{Part}
 use Rattle.cloud_facts.specs.Lefts.Left.{NothingLeft}
 use Rattle.cloud_facts.specs.Meanings.Contents.{IsRead}
-use Rattle.cloud_facts.specs.Tellings.Told.{store_of}
-use Rattle.cloud_trait.specs.Ask.{Ask, Get}
-use Rattle.cloud_trait.specs.Caller.{Caller}
 use Rattle.cloud_trait.specs.Delivery.{unmarked}
-use Rattle.cloud_trait.specs.declared.answer.Answer.{Answer}
 use Rattle.cloud_trait.specs.declared.answer.Answer.TheVariants.{Got}
-use Rattle.cloud_trait.specs.declared.state.Posted.{Posted}
-use Rattle.cloud_trait.specs.declared.state.Version.{Version}
-use Rattle.cloud_trait.specs.Machine.{Next, Goes, Ends, Stops, Deed, IsMade}
-use Rattle.cloud_trait.specs.Seen.{Seen}
-use Rattle.cloud_trait.specs.State.{CloudState, newest, newest_of, greatest}
+use Rattle.cloud_trait.specs.Machine.{IsMade}
+use Rattle.cloud_trait.specs.State.{newest_of, greatest}
 use Rattle.cloud_trait.specs.Weather.{Makes, Leaves}
 use Rattle.db_base.specs.Change.{key_of}
-use Rattle.db_base.specs.Ids.{IsTree}
-use Rattle.db_base.specs.declared.names.ObjName.{ObjName}
 use Rattle.db_base.specs.declared.names.ObjName.TheVariants as object
-use Rattle.db_base.specs.declared.names.QueueName.{QueueName}
 use Rattle.head_codec.specs.declared.lists.Pending.{Pending}
 use Rattle.history.specs.Audited.{Audited}
 use Rattle.history.specs.Fold.{of_tree}
 use Rattle.leaf_view.specs.Fits.{Ascend}
-use Rattle.leaf_view.specs.Leaf.{Leaf}
 use Rattle.leaf_view.specs.Lookup.{holds, value_of, number_of}
-use Rattle.log_codec.specs.declared.record.AtomicRec.{AtomicRec}
 use Rattle.page_cache.proofs.ReadingLemmas.{is_leaf_in}
 use Rattle.page_cache.specs.Cache.{Cache}
 use Rattle.page_cache.specs.Held.{as_leaf, leaf_at as kept_leaf}
@@ -63,7 +50,6 @@ use Rattle.replay_meaning.specs.Committed.{committed}
 use Rattle.replay_meaning.specs.Index.{Finds}
 use Rattle.replay_meaning.specs.Right.{stored_below, value_at}
 use Rattle.replay_meaning.specs.Standing.{Line}
-use Rattle.report_types.specs.declared.entry.Entry.{Entry}
 use Rattle.report_types.specs.declared.stored.Stored.{Stored}
 use Rattle.route_plan.specs.Queue.{is_pending_of}
 use Rattle.route_plan.specs.Seen.{is_lacked_by, after_pending, seen}

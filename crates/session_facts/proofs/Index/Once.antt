@@ -5,17 +5,16 @@ use Rattle.std.proofs.lemmas.Option.{same_Some}
 use Rattle.byte_format.proofs.OrderLemmas.{same_is}
 use Rattle.byte_format.specs.Order.{bytes_same}
 use Rattle.cloud_facts.proofs.Meanings.Pages.{read_range}
-use Rattle.cloud_trait.specs.State.{CloudState, newest}
+use Rattle.cloud_facts.specs.Words.{Leaf, Inner, Tree, CloudState, newest}
 use Rattle.db_base.specs.Key.{IsKey}
 use Rattle.db_base.specs.Value.{Value}
 use Rattle.db_base.specs.declared.names.ObjName.TheVariants as object
 use Rattle.leaf_view.specs.Fits.{IsEntryIn}
-use Rattle.leaf_view.specs.Leaf.{Entry as Kept, Leaf}
+use Rattle.leaf_view.specs.Leaf.{Entry as Kept}
 use Rattle.leaf_view.specs.Lookup.{value_of}
 use Rattle.node_codec.proofs.SpellingLaws.{tree_only, inner_only}
-use Rattle.node_codec.specs.Inner.{Inner, inner_of}
+use Rattle.node_codec.specs.Inner.{inner_of}
 use Rattle.node_codec.specs.Node.{Entry, child_of}
-use Rattle.node_codec.specs.Tree.{Tree}
 use Rattle.replay_meaning.proofs.ChainLemmas.{one_leaf}
 use Rattle.replay_meaning.specs.Chain.{IsNewestLeaf}
 use Rattle.replay_meaning.specs.Index.{IsRightOf, IsWithin, IsNewestInner, Reaches, ends, right_leaf, right_inner, down, IsRootIn, Finds}

@@ -9,12 +9,11 @@ use Rattle.attr_index.specs.declared.stage.Stage.{Stage}
 use Rattle.attr_index.specs.declared.stage.Stage.TheVariants.{Index, Records}
 use Rattle.byte_format.proofs.OrderLemmas.{same_is}
 use Rattle.client_work.specs.Shows.{own_of}
-use Rattle.cloud_trait.specs.State.{CloudState}
+use Rattle.cloud_facts.specs.Words.{IsTree, Leaf, CloudState}
 use Rattle.db_base.specs.Entry.{entry_bytes}
-use Rattle.db_base.specs.Ids.{IsTree, index_of}
+use Rattle.db_base.specs.Ids.{index_of}
 use Rattle.db_base.specs.Value.{Value}
 use Rattle.history.specs.Audited.{Audited}
-use Rattle.leaf_view.specs.Leaf.{Leaf}
 use Rattle.recover_run.specs.declared.home.Home.{Home}
 use Rattle.replay_meaning.specs.Chain.{Walked}
 use Rattle.replay_meaning.specs.Committed.{committed}

@@ -9,19 +9,10 @@ use Rattle.client_work.specs.declared.shown.Shown.{Shown}
 use Rattle.client_work.specs.declared.work.Work.{Work}
 use Rattle.client_work.specs.declared.work.Work.TheVariants as work
 use Rattle.cloud_facts.proofs.Book.Places.{get_map, in_front}
-use Rattle.cloud_facts.specs.Book.Book.{Book}
-use Rattle.cloud_facts.specs.Book.Records.{IsIn, entry_of, entries_of}
-use Rattle.cloud_facts.specs.Book.Tally.{Store}
+use Rattle.cloud_facts.specs.Words.{CommitAnswer, Entry, AtomicRec, Answer as Reply, Turn, Ended, CloudState, called, Caller, Seen, Next, Goes, Ends, Stops, Book, Store, IsIn, store_of}
+use Rattle.cloud_facts.specs.Book.Records.{entry_of, entries_of}
 use Rattle.cloud_facts.specs.Homes.Homes.{Home, Part}
-use Rattle.cloud_facts.specs.Tellings.Told.{store_of}
-use Rattle.cloud_trait.specs.Caller.{Caller}
 use Rattle.cloud_trait.specs.Growth.{BeginsWith}
-use Rattle.cloud_trait.specs.Machine.{Next, Goes, Ends, Stops}
-use Rattle.cloud_trait.specs.Seen.{Seen}
-use Rattle.cloud_trait.specs.State.{CloudState, called}
-use Rattle.cloud_trait.specs.declared.answer.Answer.{Answer as Reply}
-use Rattle.cloud_trait.specs.declared.turn.Turn.{Turn}
-use Rattle.cloud_trait.specs.declared.turn.Turn.TheVariants.{Ended}
 use Rattle.cloud_trait.specs.Weather.{Leaves}
 use Rattle.cloud_trait.proofs.RowLemmas.{leaves_by}
 use Rattle.commit_run.specs.Draft.{Draft}
@@ -31,14 +22,11 @@ use Rattle.commit_run.specs.declared.hand.Hand.TheVariants.{Writes, First, Chang
 use Rattle.commit_writes.specs.Writing.{Writing, writing_next}
 use Rattle.commit_writes.proofs.Outcomes as written
 use Rattle.commit_writes.proofs.Outcomes.{Comes as Wrote, comes as wrote_by}
-use Rattle.db_base.specs.declared.trouble.CommitAnswer.{CommitAnswer}
 use Rattle.db_base.specs.declared.trouble.CommitAnswer.TheVariants.{Committed, NotCommitted, InDoubt, CommittedOpen}
 use Rattle.history.specs.Audited.{Audited, committed_entry}
-use Rattle.log_codec.specs.declared.record.AtomicRec.{AtomicRec}
 use Rattle.page_cache.specs.Cache.{Cache}
 use Rattle.replay_meaning.specs.Committed.{committed}
 use Rattle.replay_meaning.specs.Standing.{Line, Posture, Standing, standing}
-use Rattle.report_types.specs.declared.entry.Entry.{Entry}
 use Rattle.session_facts.proofs.Lines.Committed.{put_entries, committed_effect, placed_called}
 use Rattle.session_facts.proofs.Machines.CommitRuns.Stays.{RunsFor, IsRefusal, turns}
 use Rattle.session_facts.proofs.Lines.Outcome.{MadeCall, made_call}

@@ -1,16 +1,10 @@
 -- After a call a session stands as the lines say.
 use Rattle.std.proofs.Common.{◌≡◌, ◌⊎◌, inl, inr, ℕ, List, [], refl, sym, ap, subst, ◌∙◌}
-use Rattle.db_base.specs.declared.trouble.Trouble.{Trouble}
+use Rattle.cloud_facts.specs.Words.{Trouble, CommitAnswer, Answer as Heard, Turn, More, Ended, Stopped, Caller, Seen, Goes, Ends, Stops}
 use Rattle.db_base.specs.declared.trouble.Trouble.TheVariants as trouble
-use Rattle.db_base.specs.declared.trouble.CommitAnswer.{CommitAnswer}
 use Rattle.db_base.specs.declared.trouble.CommitAnswer.TheVariants.{Committed, NotCommitted, InDoubt, CommittedOpen}
 use Rattle.txn_buffer.specs.Noted.{Noted}
-use Rattle.cloud_trait.specs.declared.answer.Answer.{Answer as Heard}
-use Rattle.cloud_trait.specs.declared.turn.Turn.{Turn}
-use Rattle.cloud_trait.specs.declared.turn.Turn.TheVariants.{More, Ended, Stopped}
-use Rattle.cloud_trait.specs.Caller.{Caller}
-use Rattle.cloud_trait.specs.Seen.{Seen}
-use Rattle.cloud_trait.specs.Machine.{Goes, Ends, Stops, LeadsBy, Took}
+use Rattle.cloud_trait.specs.Machine.{LeadsBy, Took}
 use Rattle.db_base.specs.declared.pair.Pair.{Pair}
 use Rattle.range_scan.specs.Scan.{Scan, scan_next, moved_on, KeepsServed}
 use Rattle.recover_run.specs.declared.home.Home.{Home}

@@ -7,21 +7,15 @@ use Rattle.std.specs.List.{flat_map}
 use Rattle.std.proofs.lemmas.List.{append-nil, length-append, take_all, take-append-le}
 use Rattle.std.proofs.lemmas.List.Concat.{flat_map-append}
 use Rattle.std.proofs.lemmas.List.Elements.{All-nil, All-head, All-tail, All-push, All-same, All-weaker}
-use Rattle.db_base.specs.declared.names.ObjName.{ObjName}
+use Rattle.cloud_facts.specs.Words.{ObjName, QueueName, Entry, Version, Posted, CloudState, called, Caller, Claim, Ask, Get, GetHeld, PutHeld, Send, Receive, Delete, Take, Renew, Release}
 use Rattle.db_base.specs.declared.names.ObjName.TheVariants as object
-use Rattle.db_base.specs.declared.names.QueueName.{QueueName}
-use Rattle.report_types.specs.declared.entry.Entry.{Entry}
 use Rattle.txn_buffer.specs.Noted.{Noted}
 use Rattle.cloud_trait.specs.declared.state.Landing.{Landing}
-use Rattle.cloud_trait.specs.declared.state.Posted.{Posted}
 use Rattle.cloud_trait.specs.declared.state.Site.{Site}
 use Rattle.cloud_trait.specs.declared.state.Site.TheVariants.{Object, Queue}
-use Rattle.cloud_trait.specs.declared.state.Version.{Version}
-use Rattle.cloud_trait.specs.Ask.{Ask, Get, GetHeld, PutHeld, ListHeld, RemoveHeld, Send, Receive, Delete, Take, Renew, Release, effect, PutsNothing, LandsNoRow}
-use Rattle.cloud_trait.specs.Caller.{Caller}
-use Rattle.cloud_trait.specs.Claim.{Claim}
+use Rattle.cloud_trait.specs.Ask.{ListHeld, RemoveHeld, effect, PutsNothing, LandsNoRow}
 use Rattle.cloud_trait.specs.Names.{object_cmp}
-use Rattle.cloud_trait.specs.State.{CloudState, IsEmptyCloud, version_at, called, landed, removed, stored, sent}
+use Rattle.cloud_trait.specs.State.{IsEmptyCloud, version_at, landed, removed, stored, sent}
 use Rattle.cloud_trait.specs.Upto.{IsUpto}
 use Rattle.cloud_trait.proofs.NameLemmas.{object_cmp-equal, object_cmp-total}
 use Rattle.cloud_trait.proofs.StateLemmas.{put_at_by, put_at_same, slice_get-push}

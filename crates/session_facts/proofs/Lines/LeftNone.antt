@@ -8,21 +8,14 @@ use Rattle.client_work.specs.declared.shown.Shown.{Shown}
 use Rattle.client_work.specs.declared.work.Work.{Work}
 use Rattle.client_work.specs.declared.work.Work.TheVariants as work
 use Rattle.cloud_facts.specs.Book.Messages.{IsLogMessage}
-use Rattle.cloud_facts.specs.Book.Records.{IsIn, entry_of, entries_of}
-use Rattle.cloud_facts.specs.Book.Tally.{Store}
+use Rattle.cloud_facts.specs.Words.{Trouble, CommitAnswer, ObjName, Entry, AtomicRec, Answer as Reply, Ended, CloudState, called, Caller, Seen, Ask, Get, PutHeld, Send, Next, Goes, Ends, Stops, Store, IsIn, store_of}
+use Rattle.cloud_facts.specs.Book.Records.{entry_of, entries_of}
 use Rattle.cloud_facts.specs.Homes.Homes.{Home, Part, Parts, HomeHolds, PartHolds, HomesHold}
 use Rattle.cloud_facts.specs.Lefts.Left.{WasLogged, Leaves as LeavesLog}
-use Rattle.cloud_facts.specs.Tellings.Told.{store_of}
 use Rattle.cloud_trait.proofs.RowLemmas.{leaves_by}
-use Rattle.cloud_trait.specs.Ask.{Ask, Get, PutHeld, Send}
-use Rattle.cloud_trait.specs.Caller.{Caller}
-use Rattle.cloud_trait.specs.Machine.{Next, Goes, Ends, Stops}
-use Rattle.cloud_trait.specs.Seen.{Seen}
-use Rattle.cloud_trait.specs.State.{CloudState, Counts, called}
+use Rattle.cloud_trait.specs.State.{Counts}
 use Rattle.cloud_trait.specs.Weather.{Leaves}
-use Rattle.cloud_trait.specs.declared.answer.Answer.{Answer as Reply}
 use Rattle.cloud_trait.specs.declared.answer.Answer.TheVariants.{Late}
-use Rattle.cloud_trait.specs.declared.turn.Turn.TheVariants.{Ended}
 use Rattle.commit_run.specs.Draft.{Draft}
 use Rattle.commit_run.specs.Run.{Run, home_of, wrote, walked, ask_at, next_at as run_next_at}
 use Rattle.commit_run.specs.declared.hand.Hand.{Hand}
@@ -35,17 +28,12 @@ use Rattle.commit_run.proofs.Outcomes as step
 use Rattle.commit_run.proofs.Outcomes.{NextRun, Leads, turned_leads}
 use Rattle.commit_writes.proofs.Outcomes as written
 use Rattle.commit_writes.proofs.Outcomes.{Comes as Wrote, comes as wrote_by}
-use Rattle.db_base.specs.declared.names.ObjName.{ObjName}
-use Rattle.db_base.specs.declared.trouble.CommitAnswer.{CommitAnswer}
 use Rattle.db_base.specs.declared.trouble.CommitAnswer.TheVariants.{Committed, NotCommitted, InDoubt, CommittedOpen}
-use Rattle.db_base.specs.declared.trouble.Trouble.{Trouble}
 use Rattle.history.specs.Audited.{Audited}
-use Rattle.log_codec.specs.declared.record.AtomicRec.{AtomicRec}
 use Rattle.page_cache.specs.Cache.{Cache}
 use Rattle.recover_run.specs.declared.home.Home.{Home as Held}
 use Rattle.replay_meaning.specs.Committed.{committed}
 use Rattle.replay_meaning.specs.Standing.{Line, Posture, Working, Committing, Standing, standing}
-use Rattle.report_types.specs.declared.entry.Entry.{Entry}
 use Rattle.session_facts.proofs.Lines.Committed.{put_entries, committed_effect, committed_called, placed_called}
 use Rattle.session_facts.specs.Machines.Commits.Knows.{Attempt, attempt_of, IsOfAttempt, KnowsTaken, KnowsCommitAt}
 use Rattle.session_facts.specs.Machines.CommitRuns.Knows.{KnowsHand, KnowsRun}

@@ -1,17 +1,11 @@
 -- What a call of a session leaves of all that holds.
 use Rattle.std.proofs.Common.{◌≡◌, ◌≤◌, ◌+◌, ℕ, List, length, Some, Ok, refl, sym, ap, ◌∙◌, Bool, false, arith, Option, None}
 use Rattle.std.specs.Prelude.{All}
-use Rattle.db_base.specs.declared.trouble.Trouble.{Trouble}
+use Rattle.cloud_facts.specs.Words.{Trouble, Answer as CallAnswer, Turn, More, Ended, Stopped, CloudState, called, newest, Caller, Seen, Ask, Renew, Release, at, store_of}
 use Rattle.db_base.specs.declared.wish.Wish.{Wish}
 use Rattle.cloud_facts.specs.Calls.Looks.{audit_of}
-use Rattle.cloud_trait.specs.declared.answer.Answer.{Answer as CallAnswer}
 use Rattle.cloud_trait.specs.declared.state.Landing.{Landing}
-use Rattle.cloud_trait.specs.declared.turn.Turn.{Turn}
-use Rattle.cloud_trait.specs.declared.turn.Turn.TheVariants.{More, Ended, Stopped}
-use Rattle.cloud_trait.specs.Ask.{Ask, Renew, Release, effect}
-use Rattle.cloud_trait.specs.Caller.{Caller}
-use Rattle.cloud_trait.specs.Seen.{Seen}
-use Rattle.cloud_trait.specs.State.{CloudState, called, newest}
+use Rattle.cloud_trait.specs.Ask.{effect}
 use Rattle.cloud_trait.specs.Weather.{Makes, Leaves}
 use Rattle.cloud_trait.proofs.RowLemmas.{row_by, leaves_upto}
 use Rattle.history.specs.Audited.{Audited}
@@ -34,8 +28,6 @@ use Rattle.replay_meaning.specs.Standing.{Line, standing}
 use Rattle.replay_meaning.specs.Committed.{committed}
 use Rattle.replay_meaning.specs.Kinds.{IsOfKind, OpensOnce}
 use Rattle.cloud_facts.specs.Book.Records.{entries_of}
-use Rattle.cloud_facts.specs.Book.Tally.{at}
-use Rattle.cloud_facts.specs.Tellings.Told.{store_of}
 use Rattle.session_facts.specs.Sessions.Audited.{audited}
 use Rattle.session_facts.specs.Sessions.HeadPuts.{IsSoundWork}
 use Rattle.session_facts.specs.Sessions.Knows.{Sessions, Goes}

@@ -1,12 +1,10 @@
 -- A line of session 0 is one of the lines from its begin on: it changes no session's standing, and the rows of session 0 are told by it.
 use Rattle.std.proofs.Common.{◌≡◌, ◌+◌, suc, List, [], ◌∷◌, ◌++◌, length, refl, sym, ap, subst, ◌∙◌, Bool, arith, length-append}
-use Rattle.cloud_trait.specs.Caller.{Caller}
-use Rattle.cloud_trait.specs.State.{CloudState}
+use Rattle.cloud_facts.specs.Words.{Entry, CloudState, Caller}
 use Rattle.cloud_trait.proofs.StateLemmas.{slice_get-push}
 use Rattle.event_text.specs.declared.event.Event.TheVariants as event
 use Rattle.history.specs.Audited.{Audited}
 use Rattle.reply_text.specs.declared.reply.Reply.{Reply}
-use Rattle.report_types.specs.declared.entry.Entry.{Entry}
 use Rattle.session_facts.specs.Sessions.Knows.{Sessions}
 use Rattle.replay_meaning.specs.Standing.{Line, Standing, after_own}
 use Rattle.session_facts.specs.Lines.Facts.{ActsAs, AllAct, CloudHolds, IsFrontOf, SettlerRests, Stands}

@@ -6,22 +6,15 @@ use Rattle.client_work.specs.declared.answer.Answer.TheVariants as answer
 use Rattle.client_work.specs.declared.work.Work.{Work}
 use Rattle.client_work.specs.declared.work.Work.TheVariants.{Reading, Scanning, Looking, Settling, Sweeping}
 use Rattle.cloud_facts.specs.Book.Messages.{IsLogMessage}
-use Rattle.cloud_facts.specs.Book.Records.{IsIn, entry_of}
-use Rattle.cloud_facts.specs.Book.Tally.{Store}
+use Rattle.cloud_facts.specs.Words.{Entry, Turn, More, Ended, CloudState, Caller, Seen, Store, IsIn, store_of}
+use Rattle.cloud_facts.specs.Book.Records.{entry_of}
 use Rattle.cloud_facts.specs.Homes.Homes.{Part}
-use Rattle.cloud_facts.specs.Tellings.Told.{store_of}
 use Rattle.cloud_facts.proofs.Book.Places.{get_map}
-use Rattle.cloud_trait.specs.declared.turn.Turn.{Turn}
-use Rattle.cloud_trait.specs.declared.turn.Turn.TheVariants.{More, Ended}
-use Rattle.cloud_trait.specs.Caller.{Caller}
-use Rattle.cloud_trait.specs.Seen.{Seen}
-use Rattle.cloud_trait.specs.State.{CloudState}
 use Rattle.db_base.specs.declared.names.QueueName.TheVariants.{Atomic}
 use Rattle.head_codec.specs.declared.lists.Pending.{Pending}
 use Rattle.history.specs.Audited.{Audited}
 use Rattle.recover_run.specs.declared.home.Home.{Home}
 use Rattle.replay_meaning.specs.Standing.{Line, Standing, standing}
-use Rattle.report_types.specs.declared.entry.Entry.{Entry}
 use Rattle.session_facts.specs.Lines.Facts.{WorksAs, ActsAs, CloudHolds}
 use Rattle.session_facts.specs.Sessions.Knows.{Sessions, IsHome, KnowsWork}
 use Rattle.session_facts.proofs.Rows.CallKinds.{HasCheckpoint}

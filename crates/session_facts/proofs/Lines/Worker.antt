@@ -1,12 +1,10 @@
 -- A line that works is one of the lines from its begin on: it leaves each session as it stood, and the rows of its session are told by it.
 use Rattle.std.proofs.Common.{◌≡◌, ◌+◌, suc, ℕ, List, [], ◌∷◌, ◌++◌, length, refl, sym, ap, subst, ◌∙◌, Bool, arith, length-append}
-use Rattle.cloud_trait.specs.Caller.{Caller}
-use Rattle.cloud_trait.specs.State.{CloudState}
+use Rattle.cloud_facts.specs.Words.{Entry, CloudState, Caller}
 use Rattle.cloud_trait.proofs.StateLemmas.{slice_get-push}
 use Rattle.event_text.specs.declared.event.Event.TheVariants as event
 use Rattle.history.specs.Audited.{Audited}
 use Rattle.reply_text.specs.declared.reply.Reply.{Reply}
-use Rattle.report_types.specs.declared.entry.Entry.{Entry}
 use Rattle.session_facts.specs.Sessions.Knows.{Sessions}
 use Rattle.replay_meaning.specs.Standing.{Line}
 use Rattle.session_facts.specs.Lines.Facts.{ActsAs, AllAct, CloudHolds, IsFrontOf, SettlerRests, Stands}

@@ -1,17 +1,13 @@
 -- A checkpoint's call beside its home's lease: of its leases those are in hand behind it that the call leaves outstanding.
 use Rattle.std.proofs.Common.{◌≡◌, ◌⊎◌, inl, inr, zero, suc, List, [], ◌∷◌, Some, sym, ap, ◌∙◌}
 use Rattle.ckpt_parts.specs.Leasing.{outstanding_after}
-use Rattle.cloud_facts.specs.Book.Records.{IsIn}
+use Rattle.cloud_facts.specs.Words.{Answer, CloudState, called, Caller, Claim, Ask, Take, Renew, Release, IsIn}
 use Rattle.cloud_facts.proofs.Book.Places.{get_single}
 use Rattle.cloud_facts.specs.Calls.Acting.{Handles}
 use Rattle.cloud_facts.specs.Leases.Guards.{IsGuarded}
 use Rattle.cloud_facts.specs.Leases.Leases.{AreOne, KeptBy, GainedBy, Owns, RenewedTo}
-use Rattle.cloud_trait.specs.declared.answer.Answer.{Answer}
 use Rattle.cloud_trait.specs.declared.answer.Answer.TheVariants.{Given}
-use Rattle.cloud_trait.specs.Ask.{Ask, Take, Renew, Release, MovesNoLock}
-use Rattle.cloud_trait.specs.Caller.{Caller}
-use Rattle.cloud_trait.specs.Claim.{Claim}
-use Rattle.cloud_trait.specs.State.{CloudState, called}
+use Rattle.cloud_trait.specs.Ask.{MovesNoLock}
 
 pub quiet_renews : (who : Caller) (ask : Ask) (x : Claim) (b t : CloudState) → MovesNoLock ask → RenewedTo who ask x b t
 quiet_renews who (Renew l ticks) x b t never = absurd never

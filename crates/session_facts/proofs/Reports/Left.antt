@@ -6,34 +6,27 @@ use Rattle.std.specs.List.{list_any}
 use Rattle.std.proofs.lemmas.Bool.{cases_lt, eqb-true, eq-eqb, and_from, and_parts}
 use Rattle.cloud_facts.specs.Chains.Chain.{ChainHolds}
 use Rattle.cloud_facts.specs.Chains.Links.{top_of}
-use Rattle.db_base.specs.Ids.{IsClient, IsTree as IsTreeId}
+use Rattle.cloud_facts.specs.Words.{IsClient, IsTree as IsTreeId, Entry, AtomicRec, Head, Tree, Version, Posted, CloudState, newest, Book, IsIn, roots_of, store_of}
 use Rattle.db_base.specs.declared.names.ObjName.TheVariants as object
-use Rattle.cloud_trait.specs.declared.state.Posted.{Posted}
-use Rattle.cloud_trait.specs.declared.state.Version.{Version}
 use Rattle.cloud_trait.specs.Delivery.{unmarked, unmarked_from}
-use Rattle.cloud_trait.specs.State.{CloudState, newest, newest_of, greatest}
+use Rattle.cloud_trait.specs.State.{newest_of, greatest}
 use Rattle.cloud_facts.proofs.Decoding.Newest.{IsLast, last_cases, last_map, newest_last}
 use Rattle.cloud_facts.proofs.Decoding.Reading.{root_reads}
-use Rattle.head_codec.specs.declared.head.Head.{Head}
 use Rattle.head_codec.specs.declared.head.Phase.{Phase}
 use Rattle.head_codec.specs.declared.head.Phase.TheVariants.{Settled, Open}
 use Rattle.head_codec.specs.Head.{empty_head}
 use Rattle.history.specs.Fold.{of_tree}
 use Rattle.leaf_view.proofs.Split.{range_is}
 use Rattle.cloud_facts.specs.Lefts.Left.{NothingLeft}
-use Rattle.log_codec.specs.declared.record.AtomicRec.{AtomicRec}
 use Rattle.log_codec.specs.declared.record.PuRec.{PuRec}
 use Rattle.cloud_facts.proofs.Calls.Heads.{newest_head}
 use Rattle.node_codec.proofs.TreeLemmas.{tree_fits}
-use Rattle.node_codec.specs.Tree.{Tree, empty_tree, tree_of}
+use Rattle.node_codec.specs.Tree.{empty_tree, tree_of}
 use Rattle.cloud_facts.specs.Numbers.Numbers.{Numbers}
-use Rattle.report_types.specs.declared.entry.Entry.{Entry}
-use Rattle.cloud_facts.specs.Book.Book.{Book}
 use Rattle.cloud_facts.specs.Book.Messages.{Waits}
 use Rattle.cloud_facts.specs.Book.Premises.{IsRouted}
-use Rattle.cloud_facts.specs.Book.Records.{IsIn, IsUnderWay, is_open, entry_of, entries_of}
-use Rattle.cloud_facts.specs.Book.Telling.{queue_of, root_in, roots_of}
-use Rattle.cloud_facts.specs.Tellings.Told.{store_of}
+use Rattle.cloud_facts.specs.Book.Records.{IsUnderWay, is_open, entry_of, entries_of}
+use Rattle.cloud_facts.specs.Book.Telling.{queue_of, root_in}
 use Rattle.world_audit.specs.Counts.{is_of, is_under_way, open_count, open_at, head_in, heads_upto, queue_at, messages_below, IsNextPage, AreWaiting}
 use Rattle.session_facts.proofs.Reports.Settled.{head_seen}
 

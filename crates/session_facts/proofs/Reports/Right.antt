@@ -1,13 +1,11 @@
 -- A report by an audit that saw all, and by looks at a cloud that stands, is right.
 use Rattle.std.proofs.Common.{◌≡◌, ℕ, List, None, length, refl, sym, ap, subst, ◌∙◌, false}
-use Rattle.db_base.specs.Ids.{IsTree}
+use Rattle.cloud_facts.specs.Words.{IsTree, Entry, CloudState, Book, Store, store_of}
 use Rattle.cloud_trait.specs.Growth.{BeginsWith}
-use Rattle.cloud_trait.specs.State.{CloudState}
 use Rattle.history.specs.Audited.{Audited}
 use Rattle.leaf_view.specs.Fits.{Ascend}
 use Rattle.history.specs.Fold.{fold, of_tree}
 use Rattle.history.specs.Legal.{IsLegal}
-use Rattle.report_types.specs.declared.entry.Entry.{Entry}
 use Rattle.report_types.specs.declared.report.Report.{Report}
 use Rattle.report_types.specs.declared.stored.Stored.{Stored}
 use Rattle.reply_text.specs.declared.reply.Reply.{Reply}
@@ -18,10 +16,7 @@ use Rattle.cloud_facts.specs.Meanings.Contents.{IsRead}
 use Rattle.cloud_facts.proofs.Meanings.Reports.{leaves_in, store_reads, all_leaves, finds_contents}
 use Rattle.replay_meaning.specs.Chain.{AreLeaves, Walked}
 use Rattle.replay_meaning.specs.Index.{Finds}
-use Rattle.cloud_facts.specs.Book.Book.{Book}
 use Rattle.cloud_facts.specs.Book.Records.{entries_of}
-use Rattle.cloud_facts.specs.Book.Tally.{Store}
-use Rattle.cloud_facts.specs.Tellings.Told.{store_of}
 use Rattle.world_audit.specs.Counts.{heads_upto, AreWaiting}
 use Rattle.cloud_facts.specs.Calls.Looks.{audit_of}
 use Rattle.session_facts.specs.Sessions.Knows.{Sessions, SessionsStand}

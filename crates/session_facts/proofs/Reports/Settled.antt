@@ -7,14 +7,12 @@ use Rattle.cloud_facts.proofs.Decoding.Values.{newest_decodes}
 use Rattle.cloud_facts.specs.Decoding.Decodes.{Decodes}
 use Rattle.cloud_facts.specs.Book.Telling.{head_in as head_of_version, last_or, queue_of}
 use Rattle.cloud_trait.specs.Delivery.{unmarked}
-use Rattle.cloud_trait.specs.State.{CloudState, newest, greatest}
-use Rattle.db_base.specs.Ids.{IsClient}
+use Rattle.cloud_facts.specs.Words.{IsClient, Entry, Head, CloudState, newest}
+use Rattle.cloud_trait.specs.State.{greatest}
 use Rattle.db_base.specs.declared.names.ObjName.TheVariants as object
 use Rattle.head_codec.specs.Head.{empty_head}
-use Rattle.head_codec.specs.declared.head.Head.{Head}
 use Rattle.head_codec.specs.declared.head.Phase.{Phase}
 use Rattle.head_codec.specs.declared.head.Phase.TheVariants.{Settled}
-use Rattle.report_types.specs.declared.entry.Entry.{Entry}
 use Rattle.std.specs.Prelude.{map}
 use Rattle.world_audit.specs.Counts.{is_of, is_under_way, open_count, open_at, head_in, heads_upto, queue_at, messages_below, IsNextPage, AreWaiting}
 

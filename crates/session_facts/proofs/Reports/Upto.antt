@@ -1,17 +1,13 @@
 -- A report that is right stays right for a later state, cut at its line, and under more lines.
 use Rattle.std.proofs.Common.{◌≡◌, ℕ, List, [], Some, ap, sym, ◌∙◌}
 use Rattle.std.specs.Prelude.{slice_get, All}
-use Rattle.db_base.specs.declared.names.ObjName.{ObjName}
-use Rattle.db_base.specs.declared.names.QueueName.{QueueName}
-use Rattle.cloud_trait.specs.Caller.{Caller}
-use Rattle.cloud_trait.specs.State.{CloudState, newest_of}
+use Rattle.cloud_facts.specs.Words.{ObjName, QueueName, Entry, Posted, CloudState, Caller}
+use Rattle.cloud_trait.specs.State.{newest_of}
 use Rattle.cloud_trait.specs.Upto.{AgreeUpto, IsUpto, upto, posts_of}
-use Rattle.cloud_trait.specs.declared.state.Posted.{Posted}
 use Rattle.cloud_trait.proofs.UptoLemmas.{upto_versions, upto_posts, upto_trace}
 use Rattle.history.specs.Fold.{of_tree}
 use Rattle.log_codec.specs.Pu.{pu_of}
 use Rattle.cloud_facts.proofs.Numbers.Lists.{map_at, map_there}
-use Rattle.report_types.specs.declared.entry.Entry.{Entry}
 use Rattle.report_types.specs.declared.report.Report.{Report}
 use Rattle.replay_meaning.proofs.SameLemmas.{AreNewest, leads_same, finds_same}
 use Rattle.replay_meaning.specs.Standing.{Line}

@@ -3,10 +3,8 @@ use Rattle.std.proofs.Common.{ℕ, Bool, true, false, List, [], ◌∷◌, Optio
 use Rattle.std.specs.Prelude.{slice_get, ◌==◌}
 use Rattle.db_base.specs.declared.names.ObjName.TheVariants as object
 use Rattle.db_base.specs.declared.names.QueueName.TheVariants.{TreePu, PagePu}
-use Rattle.cloud_trait.specs.Ask.{Ask, GetHeld, PutHeld, Release}
-use Rattle.cloud_trait.specs.Claim.{Claim}
+use Rattle.cloud_facts.specs.Words.{AtomicRec, Claim, Ask, GetHeld, PutHeld, Release}
 use Rattle.cloud_trait.specs.declared.state.Landing.{Landing}
-use Rattle.log_codec.specs.declared.record.AtomicRec.{AtomicRec}
 use Rattle.route_plan.specs.Queue.{queue_name}
 use Rattle.ckpt_parts.specs.Deleting.{next_id}
 use Rattle.ckpt_parts.specs.Leasing.{newest_lease}

@@ -3,13 +3,11 @@ use Rattle.std.proofs.Common.{◌≡◌, ◌⊎◌, ℕ, List, [], ◌∷◌, le
 use Rattle.std.specs.Prelude.{slice_get, unwrap_or}
 use Rattle.db_base.specs.declared.names.ObjName.TheVariants as object
 use Rattle.cloud_trait.specs.declared.state.Landing.{Landing}
-use Rattle.cloud_trait.specs.Ask.{Ask, Get, GetHeld, PutHeld, ListHeld, RemoveHeld, Send, Receive, Delete, Take, Renew, Release}
-use Rattle.cloud_trait.specs.Claim.{Claim}
-use Rattle.head_codec.specs.declared.head.Head.{Head}
+use Rattle.cloud_facts.specs.Words.{AtomicRec, Head, Claim, Ask, Get, GetHeld, PutHeld, Send, Receive, Delete, Take, Renew, Release}
+use Rattle.cloud_trait.specs.Ask.{ListHeld, RemoveHeld}
 use Rattle.head_codec.specs.declared.head.Phase.{Phase}
 use Rattle.head_codec.specs.declared.head.Phase.TheVariants as phase
 use Rattle.head_codec.specs.Spelling.{head_of}
-use Rattle.log_codec.specs.declared.record.AtomicRec.{AtomicRec}
 use Rattle.ckpt_parts.specs.Deleting.{next_id}
 use Rattle.ckpt_parts.specs.Leasing.{newest_lease}
 use Rattle.commit_writes.specs.declared.stage.Stage.{Stage as CommitStage}

@@ -3,22 +3,17 @@ use Rattle.std.proofs.Common.{◌≡◌, ◌+◌, ◌-◌, ◌⊎◌, ℕ, List,
 use Rattle.std.specs.Prelude.{All, slice_get}
 use Rattle.db_base.specs.declared.names.ObjName.TheVariants as object
 use Rattle.cloud_trait.specs.declared.state.Landing.{Landing}
-use Rattle.cloud_trait.specs.Ask.{Ask, Get, GetHeld, PutHeld, ListHeld, RemoveHeld, Send, Receive, Delete, Take, Renew, Release}
-use Rattle.cloud_trait.specs.Caller.{Caller}
-use Rattle.cloud_trait.specs.Seen.{Seen}
-use Rattle.cloud_trait.specs.declared.turn.Turn.TheVariants.{More, Ended}
-use Rattle.cloud_trait.specs.State.{CloudState}
+use Rattle.cloud_facts.specs.Words.{Trouble, Head, More, Ended, CloudState, Caller, Seen, Ask, Get, GetHeld, PutHeld, Send, Receive, Delete, Take, Renew, Release, Store}
+use Rattle.cloud_trait.specs.Ask.{ListHeld, RemoveHeld}
 use Rattle.client_work.specs.declared.work.Work.{Work}
 use Rattle.client_work.specs.declared.answer.Answer.{Answer}
 use Rattle.client_work.specs.declared.answer.Answer.TheVariants as answer
 use Rattle.client_work.specs.declared.work.Work.TheVariants.{Idle, Paging, Folding, Settling, Sweeping}
 use Rattle.client_work.specs.Session.{StepsAt, ask_of_work, opens_of, committing_of, stopped_work}
-use Rattle.db_base.specs.declared.trouble.Trouble.{Trouble}
 use Rattle.db_base.specs.declared.trouble.Trouble.TheVariants as trouble
 use Rattle.page_ckpt.specs.Paging.{paging_ask}
 use Rattle.recover_run.specs.declared.home.Home.{Home}
 use Rattle.tree_ckpt.specs.Making.{making_ask}
-use Rattle.head_codec.specs.declared.head.Head.{Head}
 use Rattle.head_codec.specs.declared.head.Phase.TheVariants as phase
 use Rattle.head_codec.specs.Spelling.{head_of}
 use Rattle.cloud_facts.specs.Homes.Homes.{Part}
@@ -35,7 +30,6 @@ use Rattle.session_facts.specs.Sessions.HeadPuts.{IsSoundWork, Commits, PutsHead
 use Rattle.session_facts.specs.Sessions.Knows.{KnowsWork}
 use Rattle.session_facts.proofs.Sessions.HeadPuts.{head_put}
 use Rattle.cloud_facts.specs.Book.Records.{entries_of}
-use Rattle.cloud_facts.specs.Book.Tally.{Store}
 use Rattle.session_facts.specs.Lines.Facts.{WorksAs}
 use Rattle.session_facts.specs.Lines.Errands.{Errand, settles, sweeps, WorksOn, IsRowOf}
 use Rattle.session_facts.proofs.Rows.CallAsks.{settling_may, page_at_work, tree_at_work, work_asks}

@@ -9,26 +9,18 @@ use Rattle.cloud_facts.proofs.Book.Places.{get_within}
 use Rattle.cloud_facts.proofs.Calls.Rows.{versions_within}
 use Rattle.cloud_facts.proofs.Decoding.Newest.{has_nth, never_gone}
 use Rattle.cloud_facts.proofs.Decoding.Reading.{root_reads}
-use Rattle.cloud_facts.specs.Book.Book.{Book}
-use Rattle.cloud_facts.specs.Book.Records.{IsIn, StandsAt}
-use Rattle.cloud_facts.specs.Book.Telling.{root_in, roots_of}
-use Rattle.cloud_facts.specs.Calls.Standing.{StandsUnder}
+use Rattle.cloud_facts.specs.Words.{Trouble, ObjName, Entry, Head, Tree, Version, CloudState, Book, IsIn, StandsAt, roots_of, StandsUnder}
+use Rattle.cloud_facts.specs.Book.Telling.{root_in}
 use Rattle.cloud_facts.specs.Decoding.Decodes.{Decodes}
 use Rattle.cloud_facts.specs.Decoding.Kinds.{CountsWithin}
-use Rattle.cloud_trait.specs.State.{CloudState}
-use Rattle.cloud_trait.specs.declared.state.Version.{Version}
-use Rattle.db_base.specs.declared.names.ObjName.{ObjName}
 use Rattle.db_base.specs.declared.names.ObjName.TheVariants as object
 use Rattle.db_base.specs.declared.trouble.Counter.{Counter}
 use Rattle.db_base.specs.declared.trouble.Counter.TheVariants as counter
-use Rattle.db_base.specs.declared.trouble.Trouble.{Trouble}
 use Rattle.db_base.specs.declared.trouble.Trouble.TheVariants as trouble
 use Rattle.head_codec.specs.Spelling.{head_of}
-use Rattle.head_codec.specs.declared.head.Head.{Head}
 use Rattle.history.specs.Audited.{Audited}
-use Rattle.node_codec.specs.Tree.{Tree, empty_tree}
+use Rattle.node_codec.specs.Tree.{empty_tree}
 use Rattle.replay_meaning.specs.Standing.{Line}
-use Rattle.report_types.specs.declared.entry.Entry.{Entry}
 use Rattle.session_facts.proofs.Machines.Runs.Leaves.{node_numbered}
 use Rattle.session_facts.specs.Lines.Facts.{Stands}
 use Rattle.session_facts.specs.Rows.Late.{TakesMany, IsLate, SpendsLate}

@@ -3,23 +3,18 @@ use Rattle.std.proofs.Common.{◌≡◌, ◌≤◌, ◌+◌, ℕ, zero, suc, Lis
 use Rattle.std.specs.Prelude.{All, slice_get}
 use Rattle.std.specs.List.{flat_map}
 use Rattle.std.proofs.lemmas.List.Elements.{All-head, All-tail}
-use Rattle.db_base.specs.declared.names.ObjName.{ObjName}
+use Rattle.cloud_facts.specs.Words.{ObjName, Entry, AtomicRec, Head, CloudState, Caller, Claim, Ask, Get, GetHeld, PutHeld, Send, Receive, Delete, Take, Renew, Release, IsIn}
 use Rattle.db_base.specs.declared.names.ObjName.TheVariants as object
 use Rattle.cloud_trait.specs.declared.state.Landing.{Landing}
 use Rattle.cloud_trait.specs.declared.state.Site.{Site}
 use Rattle.cloud_trait.specs.declared.state.Site.TheVariants.{Object, Queue}
-use Rattle.cloud_trait.specs.Ask.{Ask, Get, GetHeld, PutHeld, ListHeld, RemoveHeld, Send, Receive, Delete, Take, Renew, Release, effect}
-use Rattle.cloud_trait.specs.Caller.{Caller}
-use Rattle.cloud_trait.specs.Claim.{Claim}
-use Rattle.cloud_trait.specs.State.{CloudState, IsEmptyCloud, version_at, landed, removed, stored, sent}
+use Rattle.cloud_trait.specs.Ask.{ListHeld, RemoveHeld, effect}
+use Rattle.cloud_trait.specs.State.{IsEmptyCloud, version_at, landed, removed, stored, sent}
 use Rattle.cloud_trait.proofs.EffectLemmas.{effect_versions, effect_trace}
-use Rattle.head_codec.specs.declared.head.Head.{Head}
 use Rattle.head_codec.specs.declared.head.Phase.TheVariants as phase
 use Rattle.head_codec.specs.Spelling.{head_of, IsPhase}
 use Rattle.head_codec.proofs.HeadLaws.{head_of-some}
 use Rattle.history.specs.Audited.{committed_entry}
-use Rattle.log_codec.specs.declared.record.AtomicRec.{AtomicRec}
-use Rattle.report_types.specs.declared.entry.Entry.{Entry}
 use Rattle.txn_buffer.specs.Noted.{Noted}
 use Rattle.cloud_facts.proofs.Numbers.Lists.{map_there}
 use Rattle.replay_meaning.specs.Standing.{Line, standing_of_row}
@@ -28,7 +23,7 @@ use Rattle.replay_meaning.specs.Kinds.{CommitsCount, MayPutHead, MayPutPhase, Ma
 use Rattle.session_facts.specs.Lines.Facts.{IsPlaced, IsPlacedAt}
 use Rattle.session_facts.proofs.Lines.Committed.{new_version, kept_version}
 use Rattle.session_facts.proofs.Rows.Committed.{opened_entries}
-use Rattle.cloud_facts.specs.Book.Records.{IsIn, entry_of, entries_of}
+use Rattle.cloud_facts.specs.Book.Records.{entry_of, entries_of}
 use Rattle.cloud_facts.proofs.Book.Places.{get_cases, get_single, in_front, in_behind}
 
 -- ---- lists

@@ -4,22 +4,18 @@ use Rattle.std.specs.Prelude.{slice_get, ◌==◌, ◌&&◌}
 use Rattle.std.specs.Str.{bytes_eq}
 use Rattle.std.proofs.lemmas.Bool.{and_from, eq-eqb}
 use Rattle.std.proofs.lemmas.Slice.Eq.{bytes_eq-Decides}
-use Rattle.cloud_trait.specs.State.{CloudState}
+use Rattle.cloud_facts.specs.Words.{Entry, AtomicRec, CloudState, Book, StandsAt, store_of}
 use Rattle.db_base.specs.Change.{key_of}
 use Rattle.history.specs.Fold.{of_tree}
 use Rattle.cloud_facts.specs.Landings.Holding.{Holds}
 use Rattle.cloud_facts.specs.Lefts.Left.{IsCopied}
-use Rattle.log_codec.specs.declared.record.AtomicRec.{AtomicRec}
 use Rattle.cloud_facts.proofs.Numbers.Lists.{map_there, filter_there, filter_at}
 use Rattle.cloud_facts.specs.Orders.Order.{FirstApplied, is_entry_of}
 use Rattle.replay_meaning.specs.Kinds.{IsPendingOf, WasSentFor}
-use Rattle.report_types.specs.declared.entry.Entry.{Entry}
 use Rattle.route_plan.specs.Record.{pu_record_of}
-use Rattle.cloud_facts.specs.Book.Book.{Book}
-use Rattle.cloud_facts.specs.Book.Records.{StandsAt, entry_of, is_of_key}
+use Rattle.cloud_facts.specs.Book.Records.{entry_of, is_of_key}
 use Rattle.cloud_facts.specs.Book.Telling.{queue_of}
 use Rattle.cloud_facts.proofs.Book.Places.{get_front}
-use Rattle.cloud_facts.specs.Tellings.Told.{store_of}
 
 own_entry : (e : Entry) → is_entry_of e.tree (key_of e.change) e.client e ≡ true
 own_entry e =

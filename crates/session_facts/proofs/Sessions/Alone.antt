@@ -11,27 +11,14 @@ use Rattle.client_work.specs.declared.shown.Shown.{Shown}
 use Rattle.client_work.specs.declared.work.Work.{Work}
 use Rattle.client_work.specs.declared.work.Work.TheVariants.{Closed, Idle, Opening, Committing, Reading, Scanning, Looking, Folding, Paging, Closing, Renewing, Settling, Sweeping, Broken}
 use Rattle.cloud_facts.proofs.Calls.Calls.{call_of}
-use Rattle.cloud_facts.specs.Book.Book.{Book}
-use Rattle.cloud_facts.specs.Book.Tally.{Store}
-use Rattle.cloud_facts.specs.Calls.Call.{IsCall}
+use Rattle.cloud_facts.specs.Words.{Trouble, CommitAnswer, ObjName, Entry, Answer as Reply, Turn, More, Ended, CloudState, called, Caller, Seen, Claim, Ask, Get, Renew, Release, Next, Goes, Ends, Stops, Book, Store, store_of, IsCall}
 use Rattle.cloud_facts.specs.Homes.Homes.{Part}
-use Rattle.cloud_facts.specs.Tellings.Told.{store_of}
-use Rattle.cloud_trait.specs.declared.answer.Answer.{Answer as Reply}
 use Rattle.cloud_trait.specs.declared.answer.Answer.TheVariants.{Memory, Failed}
-use Rattle.cloud_trait.specs.declared.turn.Turn.{Turn}
-use Rattle.cloud_trait.specs.declared.turn.Turn.TheVariants.{More, Ended}
-use Rattle.cloud_trait.specs.Ask.{Ask, Get, Renew, Release}
-use Rattle.cloud_trait.specs.Caller.{Caller}
-use Rattle.cloud_trait.specs.Claim.{Claim, extended}
-use Rattle.cloud_trait.specs.Machine.{Next, Goes, Ends, Stops}
-use Rattle.cloud_trait.specs.Seen.{Seen}
-use Rattle.cloud_trait.specs.State.{CloudState, Counts, called, end_after}
+use Rattle.cloud_trait.specs.Claim.{extended}
+use Rattle.cloud_trait.specs.State.{Counts, end_after}
 use Rattle.cloud_trait.specs.Weather.{Makes, RenewsBoth}
 use Rattle.commit_run.specs.Run.{Run, home_of as home_of_run, run_ask, run_next}
 use Rattle.db_base.specs.declared.names.Lock.TheVariants as lock
-use Rattle.db_base.specs.declared.names.ObjName.{ObjName}
-use Rattle.db_base.specs.declared.trouble.CommitAnswer.{CommitAnswer}
-use Rattle.db_base.specs.declared.trouble.Trouble.{Trouble}
 use Rattle.db_base.specs.declared.trouble.Trouble.TheVariants as trouble
 use Rattle.page_cache.specs.Cache.{Cache}
 use Rattle.page_ckpt.specs.Paging.{Paging as Page, paging_ask}
@@ -39,7 +26,6 @@ use Rattle.range_scan.specs.Scan.{scan_ask, scan_object}
 use Rattle.recover_run.specs.declared.home.Home.{Home}
 use Rattle.recover_run.specs.declared.stage.RecoverAnswer.TheVariants.{Opened}
 use Rattle.recover_run.specs.Recovery.{Recovery, Step as RecoveryStep, IsSound, recovery_ask, recovery_next}
-use Rattle.report_types.specs.declared.entry.Entry.{Entry}
 use Rattle.session_facts.proofs.Machines.CommitRuns.Leases.{RunLeaseStays, run_lease}
 use Rattle.session_facts.proofs.Sessions.AloneLeases.{after_beside, first_last, follows_leases, last_first, making_other, paging_other, run_moves_none, stopped_leases, uses_beside, TakesOther}
 use Rattle.session_facts.proofs.Sessions.Steps.Commits as commit

@@ -10,30 +10,20 @@ use Rattle.client_work.specs.declared.op.Op.{Op}
 use Rattle.client_work.specs.declared.op.Op.TheVariants as op
 use Rattle.client_work.specs.declared.work.Work.{Work}
 use Rattle.client_work.specs.declared.work.Work.TheVariants.{Idle, Closing, Renewing}
-use Rattle.cloud_trait.specs.declared.turn.Turn.{Turn}
-use Rattle.cloud_trait.specs.declared.turn.Turn.TheVariants.{More, Ended, Stopped}
-use Rattle.cloud_trait.specs.Machine.{Next, Goes, Stops}
-use Rattle.cloud_trait.specs.State.{CloudState}
+use Rattle.cloud_facts.specs.Words.{IsTree, Trouble, CommitAnswer, Entry, Turn, More, Ended, Stopped, CloudState, Next, Goes, Stops, Book, Store, store_of}
 use Rattle.session_facts.specs.Machines.CommitRuns.Stops.{MayStopCommit, MayStopAtOnce, EndsBy, MayEnd}
 use Rattle.session_facts.proofs.Machines.Commits.Near.{near_told}
 use Rattle.session_facts.proofs.Machines.CommitRuns.Stops.{EndsWell, ready_ends_by}
-use Rattle.db_base.specs.Ids.{IsTree}
-use Rattle.db_base.specs.declared.trouble.CommitAnswer.{CommitAnswer}
 use Rattle.db_base.specs.declared.trouble.CommitAnswer.TheVariants.{Committed, NotCommitted, InDoubt, CommittedOpen}
 use Rattle.db_base.specs.declared.trouble.Counter.TheVariants as counter
-use Rattle.db_base.specs.declared.trouble.Trouble.{Trouble}
 use Rattle.db_base.specs.declared.trouble.Trouble.TheVariants as trouble
 use Rattle.page_cache.specs.Cache.{Cache}
 use Rattle.range_scan.specs.Scan.{Scan, new_scan, scan_ready}
 use Rattle.recover_run.specs.declared.home.Home.{Home}
-use Rattle.report_types.specs.declared.entry.Entry.{Entry}
 use Rattle.session_facts.specs.Machines.Looks.Knows.{IsIndexed}
 use Rattle.session_facts.proofs.Machines.Looks.Outcome.{look_begins}
 use Rattle.session_facts.proofs.Machines.Scans.Outcome.{scan_begins}
 use Rattle.session_facts.specs.Sessions.Knows.{IsHome, KnowsWork, KnowsKept, Sessions, SessionsStand, IsRightOp}
-use Rattle.cloud_facts.specs.Book.Book.{Book}
-use Rattle.cloud_facts.specs.Book.Tally.{Store}
-use Rattle.cloud_facts.specs.Tellings.Told.{store_of}
 use Rattle.tree_walk.specs.Moves.{Moves}
 use Rattle.tree_walk.specs.Walk.{new_walk, walk_ready}
 use Rattle.session_facts.specs.Machines.Walks.Caches.{KnowsCache}

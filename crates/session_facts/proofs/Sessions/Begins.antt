@@ -12,22 +12,16 @@ use Rattle.client_work.specs.declared.op.Op.{Op}
 use Rattle.client_work.specs.declared.op.Op.TheVariants as op
 use Rattle.client_work.specs.declared.work.Work.{Work}
 use Rattle.client_work.specs.declared.work.Work.TheVariants.{Closed, Idle, Opening, Committing, Reading, Scanning, Looking, Folding, Paging, Closing, Renewing, Settling, Sweeping, Broken}
-use Rattle.cloud_trait.specs.declared.turn.Turn.{Turn}
-use Rattle.cloud_trait.specs.declared.turn.Turn.TheVariants.{More, Ended, Stopped}
-use Rattle.cloud_trait.specs.Claim.{Claim}
-use Rattle.cloud_trait.specs.Machine.{Next, Goes, Ends}
-use Rattle.cloud_trait.specs.State.{CloudState}
+use Rattle.cloud_facts.specs.Words.{IsClient, IsTree, Trouble, CommitAnswer, Entry, Turn, More, Ended, Stopped, CloudState, Claim, Next, Goes, Ends, Book, Store, at, IsIn, store_of}
 use Rattle.session_facts.specs.Machines.Commits.Knows.{MayCommit, KnowsEnd}
 use Rattle.commit_run.specs.Run.{Run, new_run, home_of, run_ready}
 use Rattle.session_facts.proofs.Machines.CommitRuns.Begins.{HasBegun, run_begins}
 use Rattle.session_facts.proofs.Machines.CommitRuns.Refusals.{IsRefusal}
 use Rattle.session_facts.proofs.Machines.Commits.Noted.{may_none}
-use Rattle.db_base.specs.Ids.{IsClient, IsTree, IsPage}
-use Rattle.db_base.specs.declared.trouble.Trouble.{Trouble}
+use Rattle.db_base.specs.Ids.{IsPage}
 use Rattle.db_base.specs.declared.trouble.Trouble.TheVariants as trouble
 use Rattle.db_base.specs.declared.refusal.Refused.{Refused}
 use Rattle.db_base.specs.declared.refusal.Refused.TheVariants as refused
-use Rattle.db_base.specs.declared.trouble.CommitAnswer.{CommitAnswer}
 use Rattle.db_base.specs.declared.trouble.CommitAnswer.TheVariants.{Committed, NotCommitted, InDoubt, CommittedOpen}
 use Rattle.cloud_facts.specs.Homes.Homes.{Part, Away}
 use Rattle.session_facts.specs.Machines.Openings.Knows.{leases_of_recovery, KnowsOpening}
@@ -37,7 +31,6 @@ use Rattle.recover_run.specs.declared.stage.Aim.TheVariants as aim
 use Rattle.session_facts.proofs.Machines.PageCheckpoints.Begins.{paging_begins}
 use Rattle.range_scan.specs.Scan.{Scan, new_scan, scan_ready, moved_on}
 use Rattle.recover_run.specs.Recovery.{new_recovery}
-use Rattle.report_types.specs.declared.entry.Entry.{Entry}
 use Rattle.session_facts.specs.Machines.Looks.Knows.{IsIndexed, KnowsLooking, LookLeads}
 use Rattle.session_facts.proofs.Machines.Looks.Outcome.{look_begins}
 use Rattle.session_facts.specs.Machines.Scans.Knows.{KnowsScan, KnowsScanning, IsAtScannedLeaf, ScanLeads}
@@ -54,11 +47,7 @@ use Rattle.session_facts.specs.Machines.Settlings.Knows.{KnowsSettling}
 use Rattle.session_facts.proofs.Machines.Settlings.Begins.{settling_begins}
 use Rattle.session_facts.proofs.Machines.Sweeps.Begins.{sweep_begins}
 use Rattle.settle_run.specs.Settling.{new_settling}
-use Rattle.cloud_facts.specs.Book.Book.{Book}
-use Rattle.cloud_facts.specs.Book.Records.{IsIn}
-use Rattle.cloud_facts.specs.Book.Tally.{Store, at}
 use Rattle.cloud_facts.proofs.Book.Places.{in_none}
-use Rattle.cloud_facts.specs.Tellings.Told.{store_of}
 use Rattle.session_facts.proofs.Machines.TreeCheckpoints.Begins.{making_begins}
 use Rattle.session_facts.specs.Machines.Walks.Caches.{KnowsCache}
 use Rattle.session_facts.specs.Machines.Walks.Knows.{KnowsWalking, IsAtSeenLeaf, WalkLeads, MayStopWalk}

@@ -10,32 +10,20 @@ use Rattle.client_work.specs.declared.work.Work.{Work}
 use Rattle.client_work.specs.declared.work.Work.TheVariants.{Closed, Idle, Opening, Committing, Reading, Scanning, Looking, Paging, Folding, Closing, Renewing, Settling, Sweeping, Broken}
 use Rattle.cloud_facts.proofs.Book.Names.{at_same, at_other}
 use Rattle.cloud_facts.proofs.Calls.Calls.{call_of}
-use Rattle.cloud_facts.specs.Book.Book.{Book}
-use Rattle.cloud_facts.specs.Book.Tally.{at}
-use Rattle.cloud_facts.specs.Calls.Call.{IsCall}
-use Rattle.cloud_facts.specs.Tellings.Told.{store_of}
-use Rattle.cloud_trait.specs.Caller.{Caller}
+use Rattle.cloud_facts.specs.Words.{Trouble, CommitAnswer, Entry, Answer as Reply, Turn, More, Ended, Stopped, CloudState, Caller, Seen, Deed, Book, at, store_of, IsCall}
 use Rattle.cloud_trait.proofs.EffectLemmas.{grown_itself}
 use Rattle.cloud_trait.proofs.RowLemmas.{leaves_grown}
 use Rattle.cloud_trait.specs.Growth.{HasGrown}
-use Rattle.cloud_trait.specs.Machine.{Deed, Follows as ComesBehind}
-use Rattle.cloud_trait.specs.Seen.{Seen}
-use Rattle.cloud_trait.specs.State.{CloudState}
+use Rattle.cloud_trait.specs.Machine.{Follows as ComesBehind}
 use Rattle.cloud_trait.specs.Weather.{Makes, Leaves}
-use Rattle.cloud_trait.specs.declared.answer.Answer.{Answer as Reply}
 use Rattle.cloud_trait.specs.declared.turn.CkptAnswer.{CkptAnswer}
-use Rattle.cloud_trait.specs.declared.turn.Turn.{Turn}
-use Rattle.cloud_trait.specs.declared.turn.Turn.TheVariants.{More, Ended, Stopped}
-use Rattle.db_base.specs.declared.trouble.CommitAnswer.{CommitAnswer}
 use Rattle.db_base.specs.declared.trouble.CommitAnswer.TheVariants.{Committed, NotCommitted, InDoubt, CommittedOpen}
-use Rattle.db_base.specs.declared.trouble.Trouble.{Trouble}
 use Rattle.db_base.specs.declared.trouble.Trouble.TheVariants as trouble
 use Rattle.page_cache.specs.Cache.{Cache}
 use Rattle.page_ckpt.proofs.Leases.{came_stands, stands_few}
 use Rattle.page_ckpt.specs.Paging.{Paging as Page, new_paging, paging_ask}
 use Rattle.page_ckpt.specs.Leases.{AreFew}
 use Rattle.recover_run.specs.declared.home.Home.{Home}
-use Rattle.report_types.specs.declared.entry.Entry.{Entry}
 use Rattle.session_facts.proofs.Sessions.Outcome.{session_keeps}
 use Rattle.session_facts.proofs.Sessions.ToldCalls.{grown_on, told_begun, told_beside, told_goes, told_names}
 use Rattle.session_facts.proofs.Lines.Outcome.{MadeCall, made_call}

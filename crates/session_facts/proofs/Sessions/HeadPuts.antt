@@ -1,14 +1,12 @@
 -- The puts of heads that sessions have in hand.
 use Rattle.std.proofs.Common.{◌≡◌, ◌⊎◌, inl, inr, ℕ, Bool, true, false, List, length, Option, Some, None, refl, sym, ap, ◌∙◌}
-use Rattle.cloud_trait.specs.Ask.{Ask, PutHeld, Renew, Release}
-use Rattle.cloud_trait.specs.Claim.{Claim}
+use Rattle.cloud_facts.specs.Words.{ObjName, Claim, Ask, PutHeld, Renew, Release, Store}
 use Rattle.client_work.specs.Session.{ask_of_work, opens_of}
 use Rattle.client_work.specs.declared.work.Work.{Work}
 use Rattle.client_work.specs.declared.work.Work.TheVariants.{Closed, Idle, Opening, Committing, Reading, Scanning, Looking, Folding, Paging, Closing, Renewing, Settling, Sweeping, Broken}
 use Rattle.commit_run.specs.Run.{Run, run_opens}
 use Rattle.session_facts.specs.Machines.CommitRuns.HeadPuts.{OpensRun, PutsRun}
 use Rattle.session_facts.proofs.Machines.CommitRuns.HeadPuts.{run_puts}
-use Rattle.db_base.specs.declared.names.ObjName.{ObjName}
 use Rattle.db_base.specs.declared.names.ObjName.TheVariants as object
 use Rattle.head_codec.specs.declared.head.Phase.TheVariants as phase
 use Rattle.cloud_facts.specs.Homes.Homes.{Part}
@@ -21,7 +19,6 @@ use Rattle.session_facts.specs.Sessions.HeadPuts.{IsSoundWork, Commits, PutsHead
 use Rattle.session_facts.specs.Sessions.Knows.{KnowsWork}
 use Rattle.session_facts.proofs.Machines.Sweeps.Asks.{sweep_puts_none}
 use Rattle.session_facts.proofs.Machines.Settlings.HeadPuts.{making_puts_none, settling_puts}
-use Rattle.cloud_facts.specs.Book.Tally.{Store}
 use Rattle.tree_walk.specs.Walk.{walk_ask}
 use Rattle.std.proofs.lemmas.Option.{same_Some}
 use Rattle.std.proofs.lemmas.Bool.{true≢false}

@@ -8,20 +8,15 @@ use Rattle.client_work.specs.Session.{Acting, closed_session, ask_of_work}
 use Rattle.cloud_facts.proofs.Calls.Guarding.{others_of}
 use Rattle.cloud_facts.proofs.Calls.StandingLemmas.{empty_stands, same_stands}
 use Rattle.cloud_facts.specs.Calls.Acting.{HasLeaseOf, Setting, Outcome, Handles}
-use Rattle.cloud_facts.specs.Calls.Call.{IsCall}
+use Rattle.cloud_facts.specs.Words.{Lock, Entry, AtomicRec, Answer as Reply, CloudState, newest, Caller, Claim, Lasts, Ask, Get, GetHeld, PutHeld, Send, Receive, Delete, Take, Renew, Release, Book, Store, at, IsIn, store_of, IsCall, StandsUnder}
 use Rattle.cloud_facts.specs.Calls.Looks.{has_landed, audit_of}
 use Rattle.cloud_facts.specs.Calls.Others.{IsOfPart, NoneJoins}
-use Rattle.cloud_facts.specs.Calls.Standing.{StandsUnder}
-use Rattle.cloud_trait.specs.declared.answer.Answer.{Answer as Reply}
 use Rattle.cloud_trait.specs.declared.state.Hold.{Hold}
-use Rattle.cloud_trait.specs.Ask.{Ask, Get, GetHeld, PutHeld, ListHeld, RemoveHeld, Send, Receive, Delete, Take, Renew, Release}
-use Rattle.cloud_trait.specs.Caller.{Caller}
-use Rattle.cloud_trait.specs.Claim.{Claim, Lasts}
-use Rattle.cloud_trait.specs.State.{CloudState, IsEmptyCloud, newest}
+use Rattle.cloud_trait.specs.Ask.{ListHeld, RemoveHeld}
+use Rattle.cloud_trait.specs.State.{IsEmptyCloud}
 use Rattle.cloud_trait.specs.Weather.{Leaves}
 use Rattle.session_facts.specs.Machines.Commits.Knows.{MayCommit}
 use Rattle.session_facts.proofs.Machines.Commits.Noted.{may_none}
-use Rattle.db_base.specs.declared.names.Lock.{Lock}
 use Rattle.db_base.specs.declared.names.Lock.TheVariants as lock
 use Rattle.cloud_facts.specs.Decoding.Decodes.{Decodes}
 use Rattle.cloud_facts.specs.Homes.Homes.{Part, Away, AtHome, Opens, Parts, IsLastingPart, IsAlone, AreApart, HomesHold}
@@ -32,20 +27,15 @@ use Rattle.cloud_facts.specs.Leases.Guards.{Allowed}
 use Rattle.cloud_facts.specs.Leases.Leases.{Hands, Holds, LeasesHold, Owns}
 use Rattle.cloud_facts.proofs.Leases.GuardLemmas.{call_is_allowed, lasting_apart}
 use Rattle.cloud_facts.proofs.Leases.LeaseLemmas.{leaves_keep, fewer_keeps, later_keeps}
-use Rattle.log_codec.specs.declared.record.AtomicRec.{AtomicRec}
 use Rattle.cloud_facts.specs.Numbers.Numbers.{Numbers}
-use Rattle.report_types.specs.declared.entry.Entry.{Entry}
 use Rattle.session_facts.specs.Sessions.Audited.{noted_at, noted_in_hand}
 use Rattle.session_facts.specs.Sessions.Knows.{leases_of, KnowsWork, Knows, Sessions, hands_of, SessionsStand, Goes}
 use Rattle.session_facts.proofs.Sessions.Kept.{KnowsBoth}
 use Rattle.session_facts.proofs.Sessions.Others.{knows_others, knows_later, part_lease}
-use Rattle.cloud_facts.specs.Book.Book.{Book, empty_book}
-use Rattle.cloud_facts.specs.Book.Records.{IsIn}
-use Rattle.cloud_facts.specs.Book.Tally.{Store, at}
+use Rattle.cloud_facts.specs.Book.Book.{empty_book}
 use Rattle.cloud_facts.specs.Book.Telling.{tally_of}
 use Rattle.cloud_facts.proofs.Book.Names.{at_same, at_other}
 use Rattle.cloud_facts.proofs.Book.Places.{in_none}
-use Rattle.cloud_facts.specs.Tellings.Told.{store_of}
 use Rattle.cloud_facts.proofs.Tellings.Easy.{same_told}
 use Rattle.txn_buffer.specs.Noted.{Noted}
 use Rattle.session_facts.proofs.Machines.Walks.Caches.{empty_knows}

@@ -7,7 +7,7 @@ use Rattle.cloud_facts.specs.Calls.Acting.{HasLeaseOf}
 use Rattle.cloud_facts.specs.Calls.Others.{NoneJoins, Others}
 use Rattle.cloud_facts.proofs.Calls.Guarding.{others_itself, fewer_others}
 use Rattle.cloud_facts.proofs.Calls.OthersLemmas.{home_others}
-use Rattle.cloud_trait.specs.Claim.{Claim}
+use Rattle.cloud_facts.specs.Words.{Claim, Store, IsIn}
 use Rattle.session_facts.proofs.Machines.CommitRuns.Others.{run_others, run_part}
 use Rattle.db_base.specs.declared.names.Lock.TheVariants as lock
 use Rattle.cloud_facts.specs.Homes.Homes.{Part, Away}
@@ -22,8 +22,6 @@ use Rattle.session_facts.specs.Sessions.Knows.{leases_of, IsHome, KnowsWork, Kno
 use Rattle.session_facts.proofs.Sessions.Kept.{kept_grows}
 use Rattle.session_facts.proofs.Machines.Settlings.Others.{settling_others, settling_lease}
 use Rattle.session_facts.proofs.Machines.Sweeps.Others.{sweep_others, sweep_lease}
-use Rattle.cloud_facts.specs.Book.Records.{IsIn}
-use Rattle.cloud_facts.specs.Book.Tally.{Store}
 use Rattle.cloud_facts.proofs.Book.Places.{in_behind}
 use Rattle.session_facts.specs.Machines.TreeCheckpoints.Knows.{leases_of_making}
 use Rattle.session_facts.proofs.Machines.TreeCheckpoints.Others.{making_others}

@@ -12,12 +12,8 @@ use Rattle.cloud_facts.specs.Calls.Acting.{Setting, Outcome}
 use Rattle.cloud_facts.specs.Calls.Looks.{has_landed, audit_of}
 use Rattle.cloud_facts.proofs.Calls.Outcomes.{none_lands, weaker}
 use Rattle.cloud_trait.proofs.EffectLemmas.{begins_itself}
-use Rattle.cloud_trait.specs.declared.turn.Turn.{Turn}
-use Rattle.cloud_trait.specs.Ask.{Ask, Get, GetHeld, PutHeld, ListHeld, RemoveHeld, Send, Receive, Delete, Take, Renew, Release}
-use Rattle.cloud_trait.specs.Caller.{Caller}
-use Rattle.cloud_trait.specs.Claim.{Claim}
-use Rattle.cloud_trait.specs.Seen.{Seen}
-use Rattle.cloud_trait.specs.State.{CloudState, newest}
+use Rattle.cloud_facts.specs.Words.{Entry, Turn, CloudState, newest, Caller, Seen, Claim, Ask, Get, GetHeld, PutHeld, Send, Receive, Delete, Take, Renew, Release, Book, Store, at, store_of}
+use Rattle.cloud_trait.specs.Ask.{ListHeld, RemoveHeld}
 use Rattle.session_facts.specs.Machines.Commits.Knows.{MayCommit}
 use Rattle.session_facts.proofs.Machines.Commits.Noted.{may_none}
 use Rattle.commit_run.specs.Run.{run_ask}
@@ -32,7 +28,6 @@ use Rattle.page_ckpt.specs.Paging.{paging_ask}
 use Rattle.session_facts.specs.Machines.PageCheckpoints.Knows.{paging_note}
 use Rattle.range_scan.specs.Scan.{scan_ask}
 use Rattle.recover_run.specs.Recovery.{recovery_ask}
-use Rattle.report_types.specs.declared.entry.Entry.{Entry}
 use Rattle.session_facts.specs.Sessions.Audited.{noted_head, noted_at, noted_in_hand, audited}
 use Rattle.session_facts.specs.Sessions.Knows.{leases_of, KnowsWork, KnowsKept, Sessions, SessionsStand, Goes}
 use Rattle.session_facts.proofs.Sessions.Steps.Commits.{commit_step, run_noted}
@@ -52,12 +47,9 @@ use Rattle.tree_walk.specs.Walk.{walk_ask}
 use Rattle.session_facts.proofs.Sessions.Steps.PageCheckpoints.{paging_step, paging_noted}
 use Rattle.session_facts.specs.Machines.Settlings.Knows.{settling_note}
 use Rattle.settle_run.specs.Settling.{settle_ask}
-use Rattle.cloud_facts.specs.Book.Book.{Book}
 use Rattle.cloud_facts.specs.Book.Growth.{Grows}
 use Rattle.cloud_facts.proofs.Book.GrowthLemmas.{grows_itself}
-use Rattle.cloud_facts.specs.Book.Tally.{Store, at}
 use Rattle.cloud_facts.proofs.Book.Names.{at_same, at_other}
-use Rattle.cloud_facts.specs.Tellings.Told.{store_of}
 use Rattle.tree_ckpt.specs.Making.{making_ask}
 use Rattle.session_facts.specs.Machines.TreeCheckpoints.Knows.{making_note}
 use Rattle.txn_buffer.specs.Noted.{Noted}

@@ -3,8 +3,7 @@ use Rattle.std.proofs.Common.{ℕ, List, [], ◌∷◌, Option, Some, None}
 use Rattle.std.specs.Prelude.{unwrap_or, slice_get}
 use Rattle.ckpt_parts.specs.Deleting.{next_id}
 use Rattle.ckpt_parts.specs.Leasing.{newest_lease}
-use Rattle.cloud_trait.specs.Ask.{Ask, GetHeld, PutHeld}
-use Rattle.cloud_trait.specs.Claim.{Claim}
+use Rattle.cloud_facts.specs.Words.{AtomicRec, Claim, Ask, GetHeld, PutHeld}
 use Rattle.commit_run.specs.Run.{Run, ask_at as hand_ask, run_ask}
 use Rattle.commit_run.specs.declared.hand.Hand.{Hand}
 use Rattle.commit_run.specs.declared.hand.Hand.TheVariants.{Writes, First, Change}
@@ -12,7 +11,6 @@ use Rattle.commit_writes.specs.Writing.{Writing, send_ask, delete_ask as commit_
 use Rattle.commit_writes.specs.declared.stage.Stage.{Stage as Writes_at}
 use Rattle.commit_writes.specs.declared.stage.Stage.TheVariants as writes
 use Rattle.db_base.specs.declared.names.ObjName.TheVariants as object
-use Rattle.log_codec.specs.declared.record.AtomicRec.{AtomicRec}
 use Rattle.page_ckpt.specs.Paging.{Paging, ask_at, paging_ask, under, delete_next, right_name, home_name}
 use Rattle.page_ckpt.specs.declared.stage.Stage.{Stage}
 use Rattle.page_ckpt.specs.declared.stage.Stage.TheVariants as stage

@@ -6,12 +6,7 @@ use Rattle.client_work.specs.declared.answer.Answer.TheVariants as answer
 use Rattle.client_work.specs.declared.shown.Shown.{Shown}
 use Rattle.client_work.specs.declared.work.Work.{Work}
 use Rattle.client_work.specs.declared.work.Work.TheVariants.{Closed, Idle, Opening, Committing, Reading, Scanning, Looking, Folding, Paging, Closing, Renewing, Settling, Sweeping, Broken}
-use Rattle.cloud_trait.specs.declared.answer.Answer.{Answer as Reply}
-use Rattle.cloud_trait.specs.declared.turn.Turn.{Turn}
-use Rattle.cloud_trait.specs.declared.turn.Turn.TheVariants.{More, Ended}
-use Rattle.cloud_trait.specs.Ask.{Ask, Renew, Release}
-use Rattle.cloud_trait.specs.Caller.{Caller}
-use Rattle.cloud_trait.specs.Seen.{Seen}
+use Rattle.cloud_facts.specs.Words.{Answer as Reply, Turn, More, Ended, Caller, Seen, Ask, Renew, Release}
 use Rattle.cloud_trait.specs.Weather.{Makes}
 use Rattle.commit_run.specs.Run.{run_ask}
 use Rattle.page_cache.specs.Cache.{Cache}

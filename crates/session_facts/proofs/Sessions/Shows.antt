@@ -1,20 +1,13 @@
 -- A call that brought no value shows why: by the counts and the states before and behind it.
 use Rattle.std.proofs.Common.{◌≡◌, ◌≢◌, ◌<◌, ◌⊎◌, inl, inr, ℕ, List, Option, Some, None, Ok, Err, refl, sym, subst, ◌∙◌, arith}
 use Rattle.cloud_trait.specs.Calm.{NamesLasting}
-use Rattle.cloud_trait.specs.declared.answer.Answer.{Answer}
+use Rattle.cloud_facts.specs.Words.{Trouble, ObjName, QueueName, Lock, Answer, CloudState, called, newest, Caller, Seen, Claim, Lasts, Ask, GetHeld, PutHeld, Send, Receive, Delete, Take, Renew, Release, done_of, got_of, given_of, received_of, sent_of}
 use Rattle.cloud_trait.specs.declared.answer.Answer.TheVariants.{Got, Sent, Received, Listed, Done, Given, Held, Renewed, Late, Failed, Memory}
-use Rattle.cloud_trait.specs.Ask.{Ask, GetHeld, PutHeld, Send, Receive, Delete, Take, Renew, Release}
-use Rattle.cloud_trait.specs.Caller.{Caller}
-use Rattle.cloud_trait.specs.Claim.{Claim, Lasts, IsOver}
-use Rattle.cloud_trait.specs.Seen.{Seen}
-use Rattle.cloud_trait.specs.State.{CloudState, Counts, called, newest}
-use Rattle.cloud_trait.specs.Views.{given_of, got_of, sent_of, received_of, done_of, renewed_of}
+use Rattle.cloud_trait.specs.Claim.{IsOver}
+use Rattle.cloud_trait.specs.State.{Counts}
+use Rattle.cloud_trait.specs.Views.{renewed_of}
 use Rattle.cloud_trait.specs.Weather.{FirstOver, Leaves, Makes, Rose, Weather}
-use Rattle.db_base.specs.declared.names.Lock.{Lock}
-use Rattle.db_base.specs.declared.names.ObjName.{ObjName}
-use Rattle.db_base.specs.declared.names.QueueName.{QueueName}
 use Rattle.db_base.specs.declared.trouble.Counter.{Counter}
-use Rattle.db_base.specs.declared.trouble.Trouble.{Trouble}
 use Rattle.db_base.specs.declared.trouble.Trouble.TheVariants as trouble
 use Rattle.session_facts.specs.Sessions.Explains.{IsShown}
 

@@ -16,39 +16,23 @@ use Rattle.cloud_facts.proofs.Decoding.Reading.{node_reads}
 use Rattle.cloud_facts.proofs.Decoding.Versions.{all_there, among_those}
 use Rattle.cloud_facts.specs.Decoding.Decodes.{Decodes}
 use Rattle.cloud_facts.proofs.Meanings.Keys.{few_records}
-use Rattle.cloud_facts.specs.Book.Book.{Book}
-use Rattle.cloud_facts.specs.Calls.Standing.{StandsUnder}
+use Rattle.cloud_facts.specs.Words.{IsTree, Trouble, ObjName, QueueName, Entry, Leaf, Tree, Answer, Version, Posted, CloudState, newest, Caller, Seen, Ask, Book, Store, Node, Leafy, IsIn, nodes_of, roots_of, store_of, StandsUnder}
 use Rattle.cloud_facts.specs.Chains.Chain.{ChainHolds}
 use Rattle.cloud_facts.specs.Chains.Links.{top_of}
-use Rattle.cloud_facts.specs.Book.Records.{IsIn}
-use Rattle.cloud_facts.specs.Book.Tally.{Node, Leafy, Store}
-use Rattle.cloud_facts.specs.Book.Telling.{last_or, leaf_in, leaf_of_bytes, newest_leaf, node_in, node_of_bytes, node_or, with_bytes, root_in, nodes_of, roots_of}
+use Rattle.cloud_facts.specs.Book.Telling.{last_or, leaf_in, leaf_of_bytes, newest_leaf, node_in, node_of_bytes, node_or, with_bytes, root_in}
 use Rattle.cloud_facts.specs.Tellings.Taking.{IsLinked}
-use Rattle.cloud_facts.specs.Tellings.Told.{store_of}
 use Rattle.cloud_trait.proofs.RowLemmas.{leaves_grown}
-use Rattle.cloud_trait.specs.declared.answer.Answer.{Answer}
-use Rattle.cloud_trait.specs.Ask.{Ask}
-use Rattle.cloud_trait.specs.Caller.{Caller}
 use Rattle.cloud_trait.specs.Growth.{BeginsWith, HasGrown}
-use Rattle.cloud_trait.specs.Seen.{Seen}
-use Rattle.cloud_trait.specs.State.{CloudState, newest}
 use Rattle.cloud_trait.specs.Upto.{posts_of}
 use Rattle.cloud_trait.specs.Weather.{Makes}
-use Rattle.cloud_trait.specs.declared.state.Posted.{Posted}
-use Rattle.cloud_trait.specs.declared.state.Version.{Version}
-use Rattle.db_base.specs.Ids.{IsTree}
-use Rattle.db_base.specs.declared.names.ObjName.{ObjName}
 use Rattle.db_base.specs.declared.names.ObjName.TheVariants as object
-use Rattle.db_base.specs.declared.names.QueueName.{QueueName}
 use Rattle.db_base.specs.declared.names.QueueName.TheVariants.{TreePu}
 use Rattle.db_base.specs.declared.trouble.Counter.{Counter}
 use Rattle.db_base.specs.declared.trouble.Counter.TheVariants as counter
-use Rattle.db_base.specs.declared.trouble.Trouble.{Trouble}
 use Rattle.db_base.specs.declared.trouble.Trouble.TheVariants as trouble
-use Rattle.leaf_view.specs.Leaf.{Leaf, leaf}
+use Rattle.leaf_view.specs.Leaf.{leaf}
 use Rattle.leaf_view.specs.Lookup.{empty_leaf}
-use Rattle.node_codec.specs.Tree.{Tree, empty_tree}
-use Rattle.report_types.specs.declared.entry.Entry.{Entry}
+use Rattle.node_codec.specs.Tree.{empty_tree}
 use Rattle.split_plan.specs.Sizes.{count_of}
 use Rattle.session_facts.proofs.Machines.TreeCheckpoints.EntryCounts.{pieces_more}
 use Rattle.session_facts.proofs.Machines.Risings.Grounds.{top_most}

@@ -10,24 +10,15 @@ use Rattle.client_work.specs.declared.shown.Shown.{Shown}
 use Rattle.client_work.specs.declared.work.Work.{Work}
 use Rattle.client_work.specs.declared.work.Work.TheVariants.{Closed, Idle, Opening, Committing, Reading, Scanning, Looking, Folding, Paging, Closing, Renewing, Settling, Sweeping, Broken}
 use Rattle.cloud_facts.specs.Calls.Acting.{Setting}
-use Rattle.cloud_facts.specs.Calls.Call.{IsCall}
+use Rattle.cloud_facts.specs.Words.{Trouble, CommitAnswer, Entry, Answer as Reply, Turn, More, Ended, Stopped, CloudState, Caller, Seen, Ask, done_of, Book, Store, store_of, IsCall}
 use Rattle.cloud_facts.proofs.Calls.Calls.{call_of}
-use Rattle.cloud_trait.specs.declared.answer.Answer.{Answer as Reply}
 use Rattle.cloud_trait.specs.declared.answer.Answer.TheVariants.{Got, Sent, Received, Listed, Done, Given, Held, Renewed, Late, Failed, Memory}
-use Rattle.cloud_trait.specs.declared.turn.Turn.{Turn}
-use Rattle.cloud_trait.specs.declared.turn.Turn.TheVariants.{More, Ended, Stopped}
-use Rattle.cloud_trait.specs.Ask.{Ask}
-use Rattle.cloud_trait.specs.Caller.{Caller}
 use Rattle.cloud_trait.specs.Machine.{LeadsBy, Took}
-use Rattle.cloud_trait.specs.Seen.{Seen}
-use Rattle.cloud_trait.specs.State.{CloudState}
-use Rattle.cloud_trait.specs.Views.{trouble_of, done_of, renewed_of}
+use Rattle.cloud_trait.specs.Views.{trouble_of, renewed_of}
 use Rattle.cloud_trait.specs.Weather.{Makes}
 use Rattle.commit_run.specs.Run.{Run, run_ask}
 use Rattle.session_facts.specs.Machines.CommitRuns.Stops.{MayStopCommit, MayEnd}
 use Rattle.session_facts.proofs.Machines.CommitRuns.Stops.{EndsWell, run_ends}
-use Rattle.db_base.specs.declared.trouble.CommitAnswer.{CommitAnswer}
-use Rattle.db_base.specs.declared.trouble.Trouble.{Trouble}
 use Rattle.db_base.specs.declared.trouble.Trouble.TheVariants as trouble
 use Rattle.session_facts.specs.Machines.Openings.Knows.{MayStopOpening}
 use Rattle.session_facts.proofs.Machines.Openings.Stops.{opening_stops}
@@ -38,7 +29,6 @@ use Rattle.session_facts.proofs.Machines.PageCheckpoints.Outcome.{paging_stops}
 use Rattle.range_scan.specs.Scan.{scan_ask, scan_next, KeepsServed}
 use Rattle.recover_run.specs.declared.home.Home.{Home}
 use Rattle.recover_run.specs.Recovery.{Recovery, recovery_ask}
-use Rattle.report_types.specs.declared.entry.Entry.{Entry}
 use Rattle.session_facts.proofs.Machines.Looks.Outcome.{look_stops}
 use Rattle.session_facts.proofs.Machines.Scans.Outcome.{scan_stops}
 use Rattle.session_facts.specs.Sessions.Stops.{MayRefuse, MayAnswer}
@@ -48,10 +38,7 @@ use Rattle.session_facts.proofs.Machines.Settlings.Stops.{settling_stops}
 use Rattle.orphan_sweep.specs.Sweeping.{Sweeping as SweepingState, sweep_ask}
 use Rattle.session_facts.proofs.Machines.Sweeps.Outcome.{sweep_stops}
 use Rattle.settle_run.specs.Settling.{Settling as SettlingState, settle_ask}
-use Rattle.cloud_facts.specs.Book.Book.{Book}
-use Rattle.cloud_facts.specs.Book.Tally.{Store}
 use Rattle.cloud_facts.proofs.Book.Places.{in_behind}
-use Rattle.cloud_facts.specs.Tellings.Told.{store_of}
 use Rattle.tree_ckpt.specs.Making.{Making, making_ask}
 use Rattle.session_facts.specs.Machines.TreeCheckpoints.Knows.{MayStopTree, leases_of_making}
 use Rattle.session_facts.proofs.Machines.TreeCheckpoints.Outcome.{making_stops}

@@ -2,24 +2,14 @@
 use Rattle.std.proofs.Common.{◌≡◌, ℕ, List, [], ◌∷◌, Some, None, refl, sym, subst, ◌∙◌, arith}
 use Rattle.cloud_facts.proofs.Calls.Calls.{call_of}
 use Rattle.cloud_facts.proofs.Calls.Copies.{begins_on}
-use Rattle.cloud_facts.specs.Book.Book.{Book}
-use Rattle.cloud_facts.specs.Calls.Standing.{StandsUnder}
-use Rattle.cloud_facts.specs.Tellings.Told.{store_of}
+use Rattle.cloud_facts.specs.Words.{ObjName, Entry, Answer, Ended, CloudState, Caller, Seen, PutHeld, Goes, Deed, calls_of, Book, store_of, StandsUnder}
 use Rattle.cloud_trait.proofs.EffectLemmas.{grown_itself}
-use Rattle.cloud_trait.specs.declared.answer.Answer.{Answer}
 use Rattle.cloud_trait.specs.declared.answer.Answer.TheVariants.{Done}
 use Rattle.cloud_trait.specs.declared.turn.CkptAnswer.{CkptAnswer}
-use Rattle.cloud_trait.specs.declared.turn.Turn.TheVariants.{Ended}
-use Rattle.cloud_trait.specs.Ask.{PutHeld}
-use Rattle.cloud_trait.specs.Caller.{Caller}
 use Rattle.cloud_trait.specs.Growth.{HasGrown}
-use Rattle.cloud_trait.specs.Machine.{Deed, Came, Goes, Took, Follows, calls_of}
-use Rattle.cloud_trait.specs.Seen.{Seen}
-use Rattle.cloud_trait.specs.State.{CloudState}
+use Rattle.cloud_trait.specs.Machine.{Came, Took, Follows}
 use Rattle.cloud_trait.specs.Upto.{posts_of}
 use Rattle.cloud_trait.specs.Weather.{Makes}
-use Rattle.report_types.specs.declared.entry.Entry.{Entry}
-use Rattle.db_base.specs.declared.names.ObjName.{ObjName}
 use Rattle.session_facts.proofs.Machines.TreeCheckpoints.Landed.{up_told, work_told}
 use Rattle.session_facts.proofs.Machines.TreeCheckpoints.NestingSteps.{step_nests}
 use Rattle.session_facts.proofs.Machines.TreeCheckpoints.PiecesNamed.{works_is, done_names}

@@ -1,9 +1,7 @@
 -- Where a settling begins nothing was made and nothing is left of what came before.
 use Rattle.std.proofs.Common.{◌≡◌, List, refl, arith}
 use Rattle.client_work.specs.Session.{closed_session}
-use Rattle.cloud_facts.specs.Book.Book.{Book}
-use Rattle.cloud_trait.specs.State.{CloudState}
-use Rattle.report_types.specs.declared.entry.Entry.{Entry}
+use Rattle.cloud_facts.specs.Words.{Entry, CloudState, Book}
 use Rattle.session_facts.proofs.Settling.CostParts.{Cost, LeftAndCost}
 use Rattle.session_facts.proofs.Settling.Lefts.{Left}
 use Rattle.session_facts.proofs.Settling.Turns.{first_moment}

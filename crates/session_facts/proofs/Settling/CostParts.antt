@@ -5,17 +5,12 @@ use Rattle.std.proofs.lemmas.Bool.{cases_eq, eq-eqb}
 use Rattle.cloud_trait.specs.Calm.{IsCalm, AreCalm}
 use Rattle.cloud_trait.specs.Plenty.{HadMemory}
 use Rattle.cloud_facts.proofs.Book.Places.{in_front}
-use Rattle.cloud_facts.specs.Book.Records.{IsIn}
-use Rattle.cloud_facts.specs.Book.Tally.{Leafy, right_of}
+use Rattle.cloud_facts.specs.Words.{IsClient, IsTree, QueueName, Version, Posted, CloudState, Goes, Ends, Stops, Deed, Leafy, IsIn}
+use Rattle.cloud_facts.specs.Book.Tally.{right_of}
 use Rattle.cloud_facts.specs.Book.Telling.{head_in, root_in, node_in, with_bytes, last_or}
 use Rattle.cloud_trait.specs.Delivery.{unmarked}
-use Rattle.cloud_trait.specs.Machine.{Goes, Ends, Stops, Deed}
-use Rattle.cloud_trait.specs.State.{CloudState, Counts}
+use Rattle.cloud_trait.specs.State.{Counts}
 use Rattle.cloud_trait.specs.declared.answer.Answer.TheVariants.{Memory}
-use Rattle.cloud_trait.specs.declared.state.Posted.{Posted}
-use Rattle.cloud_trait.specs.declared.state.Version.{Version}
-use Rattle.db_base.specs.Ids.{IsClient, IsTree}
-use Rattle.db_base.specs.declared.names.QueueName.{QueueName}
 use Rattle.db_base.specs.declared.names.QueueName.TheVariants as queue
 use Rattle.head_codec.specs.Head.{empty_head}
 use Rattle.leaf_view.specs.Lookup.{page_at, empty_leaf}

@@ -2,11 +2,8 @@
 use Rattle.std.proofs.Common.{◌≡◌, ◌≢◌, ◌+◌, ◌-◌, ◌*◌, ◌<◌, ◌≤◌, ◌⊎◌, inl, inr, ℕ, zero, suc, List, [], length, refl, sym, ap, subst, ◌∙◌, arith}
 use Rattle.std.proofs.lemmas.Bool.{cases_eq}
 use Rattle.cloud_facts.proofs.Book.Names.{at_same, at_other}
-use Rattle.cloud_facts.specs.Book.Tally.{at}
-use Rattle.cloud_trait.specs.State.{CloudState}
-use Rattle.db_base.specs.Ids.{IsTree}
+use Rattle.cloud_facts.specs.Words.{IsTree, QueueName, CloudState, at}
 use Rattle.db_base.specs.declared.names.ObjName.TheVariants as object
-use Rattle.db_base.specs.declared.names.QueueName.{QueueName}
 use Rattle.db_base.specs.declared.names.QueueName.TheVariants as queue
 use Rattle.session_facts.proofs.Settling.Frames.{IsPending}
 use Rattle.session_facts.proofs.Settling.LeafPages.{one_way, same_most}

@@ -11,17 +11,14 @@ use Rattle.cloud_facts.proofs.Book.Places.{get_map}
 use Rattle.cloud_facts.proofs.Chains.Names.{in_single}
 use Rattle.cloud_facts.proofs.Chains.Pieces.{none_in, in_first, in_rest, in_cases, in_both}
 use Rattle.cloud_facts.proofs.Copies.Tops.{top_covers}
-use Rattle.cloud_facts.specs.Book.Records.{IsIn, Apart}
-use Rattle.cloud_facts.specs.Book.Tally.{Store}
+use Rattle.cloud_facts.specs.Words.{IsClient, PuItem, Posted, Store, IsIn}
+use Rattle.cloud_facts.specs.Book.Records.{Apart}
 use Rattle.cloud_facts.specs.Copies.Copies.{Copies, AreItems}
 use Rattle.cloud_trait.specs.Delivery.{unmarked, unmarked_from, WasSent, IsDelivering}
 use Rattle.cloud_trait.specs.State.{marked}
 use Rattle.cloud_trait.specs.declared.message.Message.{Message}
-use Rattle.cloud_trait.specs.declared.state.Posted.{Posted}
 use Rattle.db_base.specs.Cursor.{number_of}
-use Rattle.db_base.specs.Ids.{IsClient}
 use Rattle.log_codec.specs.Pu.{pu_of}
-use Rattle.log_codec.specs.declared.record.PuItem.{PuItem}
 use Rattle.log_codec.specs.declared.record.PuRec.{PuRec}
 use Rattle.recover_run.proofs.Marks.{others, marked_leaves}
 use Rattle.run_cursor.specs.Covered.{is_covered, is_seen, new_ones, covered_ids}

@@ -3,25 +3,17 @@ use Rattle.std.proofs.Common.{◌≡◌, ◌+◌, ◌-◌, ◌≤◌, ℕ, zero,
 use Rattle.std.specs.Prelude.{slice_get, unwrap_or, ◌==◌}
 use Rattle.ckpt_parts.specs.Deleting.{next_id}
 use Rattle.ckpt_parts.specs.Leasing.{newest_lease}
-use Rattle.cloud_facts.specs.Calls.Call.{IsCall}
+use Rattle.cloud_facts.specs.Words.{ObjName, QueueName, Answer, Version, Posted, CloudState, called, Caller, Claim, Ask, Get, GetHeld, PutHeld, Send, Receive, Delete, Take, Renew, Release, Goes, Ends, Deed, Store, IsCall}
 use Rattle.cloud_facts.specs.Homes.Homes.{Part as Place}
 use Rattle.cloud_trait.proofs.EffectLemmas.{moved_by, released_by}
 use Rattle.cloud_trait.proofs.NameLemmas.{object_cmp-equal, queue_cmp-equal}
 use Rattle.cloud_trait.proofs.RowLemmas.{row_by}
 use Rattle.cloud_trait.proofs.StateLemmas.{put_at_by}
-use Rattle.cloud_trait.specs.Ask.{Ask, Get, GetHeld, PutHeld, ListHeld, RemoveHeld, Send, Receive, Delete, Take, Renew, Release, effect}
-use Rattle.cloud_trait.specs.Caller.{Caller}
-use Rattle.cloud_trait.specs.Claim.{Claim}
+use Rattle.cloud_trait.specs.Ask.{ListHeld, RemoveHeld, effect}
 use Rattle.cloud_trait.specs.Delivery.{unmarked, unmarked_from}
-use Rattle.cloud_trait.specs.Machine.{Deed, Goes, Ends}
 use Rattle.cloud_trait.specs.Names.{object_cmp, queue_cmp}
-use Rattle.cloud_trait.specs.State.{CloudState, called, put_at, marked, mark_at, end_after}
-use Rattle.cloud_trait.specs.declared.answer.Answer.{Answer}
-use Rattle.cloud_trait.specs.declared.state.Posted.{Posted}
-use Rattle.cloud_trait.specs.declared.state.Version.{Version}
-use Rattle.db_base.specs.declared.names.ObjName.{ObjName}
+use Rattle.cloud_trait.specs.State.{put_at, marked, mark_at, end_after}
 use Rattle.db_base.specs.declared.names.ObjName.TheVariants as object
-use Rattle.db_base.specs.declared.names.QueueName.{QueueName}
 use Rattle.db_base.specs.declared.names.QueueName.TheVariants as queue
 use Rattle.page_ckpt.specs.Paging.{Paging, ask_at as paging_ask_at, paging_ask, under as under_page, delete_next as delete_page_next, home_name, right_name}
 use Rattle.page_ckpt.specs.declared.stage.Stage.{Stage as PageStage}
@@ -34,7 +26,6 @@ use Rattle.session_facts.proofs.Settling.Stories.{turn_asks, turn_known}
 use Rattle.session_facts.specs.Settling.Story.{Moment, IsTurn, PartStory, PartRan}
 use Rattle.session_facts.specs.Machines.Settlings.Knows.{KnowsAtWork}
 use Rattle.session_facts.specs.Machines.TreeCheckpoints.Knows.{KnowsWork}
-use Rattle.cloud_facts.specs.Book.Tally.{Store}
 use Rattle.settle_run.proofs.End.{part_stays}
 use Rattle.settle_run.specs.Parts.{part_again, part_ask}
 use Rattle.settle_run.specs.declared.part.Part.{Part}

@@ -2,17 +2,12 @@
 use Rattle.std.proofs.Common.{◌≡◌, ◌≢◌, ◌≤◌, inl, ℕ, List, [], refl, sym, subst}
 use Rattle.cloud_trait.specs.Calm.{TakesFree}
 use Rattle.ckpt_parts.specs.Leasing.{outstanding_after}
-use Rattle.cloud_facts.specs.Book.Tally.{Store}
+use Rattle.cloud_facts.specs.Words.{Lock, Answer, CloudState, called, Caller, Claim, Next, Goes, Ends, Stops, Store}
 use Rattle.cloud_facts.specs.Homes.Homes.{Part}
-use Rattle.cloud_trait.specs.declared.answer.Answer.{Answer}
 use Rattle.cloud_trait.specs.declared.answer.Answer.TheVariants.{Failed, Memory}
 use Rattle.cloud_trait.specs.declared.turn.CkptAnswer.{CkptAnswer}
-use Rattle.cloud_trait.specs.Caller.{Caller}
-use Rattle.cloud_trait.specs.Claim.{Claim}
-use Rattle.cloud_trait.specs.Machine.{Next, Goes, Ends, Stops}
-use Rattle.cloud_trait.specs.State.{CloudState, Counts, called}
+use Rattle.cloud_trait.specs.State.{Counts}
 use Rattle.cloud_trait.specs.Weather.{Weather}
-use Rattle.db_base.specs.declared.names.Lock.{Lock}
 use Rattle.page_ckpt.specs.Paging.{Paging}
 use Rattle.recover_run.specs.declared.stage.RecoverAnswer.{RecoverAnswer}
 use Rattle.recover_run.specs.Recovery.{Recovery}

@@ -2,16 +2,12 @@
 use Rattle.std.proofs.Common.{◌≡◌, ◌≢◌, ◌+◌, ◌<◌, ◌⊎◌, inl, inr, ℕ, zero, suc, Bool, true, false, List, [], ◌∷◌, ◌++◌, map, Some, None, refl, sym, ap, subst, ◌∙◌, arith}
 use Rattle.std.proofs.lemmas.Bool.{cases_eq}
 use Rattle.cloud_facts.proofs.Book.Places.{get_single, in_either, in_behind}
-use Rattle.cloud_facts.specs.Book.Records.{IsIn}
+use Rattle.cloud_facts.specs.Words.{IsTree, QueueName, Version, Goes, Deed, Store, IsIn}
 use Rattle.cloud_facts.specs.Book.Telling.{queue_of, head_in, last_or}
 use Rattle.cloud_facts.specs.Homes.Homes.{Part as Place}
-use Rattle.cloud_facts.specs.Book.Tally.{Store}
 use Rattle.cloud_trait.specs.Delivery.{unmarked}
-use Rattle.cloud_trait.specs.Machine.{Goes, Deed}
-use Rattle.cloud_trait.specs.declared.state.Version.{Version}
-use Rattle.db_base.specs.Ids.{IsPage, IsTree}
+use Rattle.db_base.specs.Ids.{IsPage}
 use Rattle.db_base.specs.declared.names.ObjName.TheVariants as object
-use Rattle.db_base.specs.declared.names.QueueName.{QueueName}
 use Rattle.db_base.specs.declared.names.QueueName.TheVariants as queue
 use Rattle.head_codec.specs.Head.{empty_head}
 use Rattle.head_codec.specs.declared.head.Phase.TheVariants.{Settled}

@@ -4,17 +4,15 @@ use Rattle.std.specs.Prelude.{slice_get}
 use Rattle.std.proofs.lemmas.Bool.{cases_eq}
 use Rattle.cloud_facts.proofs.Book.Places.{in_none, get_within}
 use Rattle.cloud_facts.proofs.Copies.Receives.{IsLeft, left_of}
-use Rattle.cloud_facts.specs.Book.Book.{Link}
-use Rattle.cloud_facts.specs.Book.Records.{IsIn, StandsAt}
+use Rattle.cloud_facts.specs.Words.{IsClient, IsTree, CloudState, Link, IsIn, StandsAt}
 use Rattle.cloud_facts.specs.Book.Telling.{queue_of}
 use Rattle.cloud_facts.specs.Chains.Chain.{IsChained}
 use Rattle.cloud_facts.specs.Chains.Links.{first_link, page_after}
 use Rattle.cloud_facts.specs.Numbers.Numbers.{IsOfRecord}
 use Rattle.cloud_facts.specs.Book.Premises.{IsRouted}
 use Rattle.cloud_trait.specs.Delivery.{unmarked}
-use Rattle.cloud_trait.specs.State.{CloudState}
 use Rattle.cloud_trait.specs.declared.message.Message.{Message}
-use Rattle.db_base.specs.Ids.{IsClient, IsPage, IsTree}
+use Rattle.db_base.specs.Ids.{IsPage}
 use Rattle.db_base.specs.declared.names.QueueName.TheVariants as queue
 use Rattle.head_codec.specs.declared.head.Phase.TheVariants.{Settled}
 use Rattle.session_facts.proofs.Settling.Queues.{AreNews}

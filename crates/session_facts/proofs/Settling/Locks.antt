@@ -7,22 +7,17 @@ use Rattle.std.specs.Ordering.{is_eq}
 use Rattle.cloud_trait.specs.Calm.{TakesFree}
 use Rattle.ckpt_parts.specs.Leasing.{outstanding_after}
 use Rattle.cloud_facts.proofs.Book.Places.{get_single, in_behind, in_none}
-use Rattle.cloud_trait.specs.declared.answer.Answer.{Answer}
+use Rattle.cloud_facts.specs.Words.{Trouble, Lock, Answer, CloudState, called, Caller, Claim, Ask, Get, GetHeld, PutHeld, Send, Receive, Delete, Take, Renew, Release, Next, Goes, Ends, Stops, given_of}
 use Rattle.cloud_trait.specs.declared.answer.Answer.TheVariants.{Got, Sent, Received, Listed, Done, Given, Held, Renewed, Late, Failed, Memory}
 use Rattle.cloud_trait.specs.declared.state.Hold.{Hold}
-use Rattle.cloud_trait.specs.Ask.{Ask, Get, GetHeld, PutHeld, ListHeld, RemoveHeld, Send, Receive, Delete, Take, Renew, Release, MovesNoLock}
-use Rattle.cloud_trait.specs.Caller.{Caller}
-use Rattle.cloud_trait.specs.Claim.{Claim, extended}
-use Rattle.cloud_trait.specs.Machine.{Next, Goes, Ends, Stops}
+use Rattle.cloud_trait.specs.Ask.{ListHeld, RemoveHeld, MovesNoLock}
+use Rattle.cloud_trait.specs.Claim.{extended}
 use Rattle.cloud_trait.specs.Names.{lock_cmp}
-use Rattle.cloud_trait.specs.State.{CloudState, Counts, called, put_at, end_after, lease_given, taken, is_current, moved, released, held_so}
-use Rattle.cloud_trait.specs.Views.{given_of}
+use Rattle.cloud_trait.specs.State.{Counts, put_at, end_after, lease_given, taken, is_current, moved, released, held_so}
 use Rattle.cloud_trait.specs.Weather.{Weather}
 use Rattle.cloud_trait.proofs.NameLemmas.{lock_cmp-equal, lock_cmp-total}
 use Rattle.cloud_trait.proofs.RowLemmas.{row_locks}
 use Rattle.cloud_trait.proofs.StateLemmas.{put_at_by, put_at_same}
-use Rattle.db_base.specs.declared.names.Lock.{Lock}
-use Rattle.db_base.specs.declared.trouble.Trouble.{Trouble}
 use Rattle.session_facts.specs.Settling.Locks.{IsOwn, HoldsAlone, HasNone, UsesOwn}
 
 -- ---- the lock that a call takes

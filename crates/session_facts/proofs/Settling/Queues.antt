@@ -5,11 +5,9 @@ use Rattle.std.specs.List.{AllByRecursion}
 use Rattle.std.proofs.lemmas.Bool.{eqb-true}
 use Rattle.ckpt_parts.specs.Intakes.{ids_of}
 use Rattle.cloud_facts.proofs.Book.Places.{in_none, in_either}
-use Rattle.cloud_facts.specs.Book.Records.{IsIn}
+use Rattle.cloud_facts.specs.Words.{QueueName, CloudState, IsIn}
 use Rattle.cloud_trait.specs.Delivery.{IsDelivering}
-use Rattle.cloud_trait.specs.State.{CloudState}
 use Rattle.cloud_trait.specs.declared.message.Message.{Message}
-use Rattle.db_base.specs.declared.names.QueueName.{QueueName}
 use Rattle.recover_run.proofs.Marks.{brought_all, brought_none}
 use Rattle.recover_run.proofs.Sweeping.{none_new}
 use Rattle.recover_run.specs.Ids.{has_id, new_ids}

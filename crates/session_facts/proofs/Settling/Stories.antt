@@ -2,13 +2,12 @@
 use Rattle.std.proofs.Common.{◌≡◌, ℕ, List, [], ◌∷◌, Some, refl, sym, ap, subst, ◌∙◌}
 use Rattle.cloud_trait.specs.Calm.{ComesNext, AreCalm, AreAlone}
 use Rattle.client_work.specs.declared.work.Work.{Work}
-use Rattle.cloud_facts.specs.Calls.Call.{IsCall}
+use Rattle.cloud_facts.specs.Words.{CloudState, Ask, Next, Goes, Ends, Stops, Deed, IsCall}
 use Rattle.cloud_facts.proofs.Calls.Calls.{call_of}
 use Rattle.cloud_trait.proofs.EffectLemmas.{grown_itself}
-use Rattle.cloud_trait.specs.Ask.{Ask}
 use Rattle.cloud_trait.specs.Growth.{HasGrown}
-use Rattle.cloud_trait.specs.Machine.{Next, Goes, Ends, Stops, LeadsBy, Deed, IsMade, Follows}
-use Rattle.cloud_trait.specs.State.{CloudState, Counts}
+use Rattle.cloud_trait.specs.Machine.{LeadsBy, IsMade, Follows}
+use Rattle.cloud_trait.specs.State.{Counts}
 use Rattle.cloud_trait.specs.declared.turn.CkptAnswer.{CkptAnswer}
 use Rattle.page_ckpt.specs.Paging.{Paging, PagingLeads}
 use Rattle.recover_run.specs.declared.stage.RecoverAnswer.{RecoverAnswer}

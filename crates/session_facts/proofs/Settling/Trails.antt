@@ -1,18 +1,15 @@
 -- The states that calls lead through, where nobody else acts: what stays over calls that do not touch it, and what deletions leave.
 use Rattle.std.proofs.Common.{◌≡◌, ℕ, List, [], ◌∷◌, ◌++◌, Some, refl, ap, subst, ◌∙◌}
 use Rattle.cloud_facts.proofs.Calls.Calls.{call_of}
-use Rattle.cloud_facts.specs.Calls.Call.{IsCall}
+use Rattle.cloud_facts.specs.Words.{QueueName, Answer, Posted, CloudState, called, Ask, Delete, Deed, calls_of, IsCall}
 use Rattle.cloud_trait.proofs.NameLemmas.{queue_cmp-total}
 use Rattle.cloud_trait.proofs.RowLemmas.{row_messages}
 use Rattle.cloud_trait.proofs.StateLemmas.{put_at_same}
-use Rattle.cloud_trait.specs.Ask.{Ask, Delete, Lands, TouchesNoMessage}
-use Rattle.cloud_trait.specs.Machine.{Deed, IsMade, calls_of}
+use Rattle.cloud_trait.specs.Ask.{Lands, TouchesNoMessage}
+use Rattle.cloud_trait.specs.Machine.{IsMade}
 use Rattle.cloud_trait.specs.Names.{queue_cmp}
-use Rattle.cloud_trait.specs.State.{CloudState, called, marked}
-use Rattle.cloud_trait.specs.declared.answer.Answer.{Answer}
+use Rattle.cloud_trait.specs.State.{marked}
 use Rattle.cloud_trait.specs.declared.answer.Answer.TheVariants.{Done}
-use Rattle.cloud_trait.specs.declared.state.Posted.{Posted}
-use Rattle.db_base.specs.declared.names.QueueName.{QueueName}
 use Rattle.session_facts.proofs.Settling.Drains.{marked_over}
 
 -- a call was made between two told states

@@ -1,11 +1,9 @@
 -- A machine's way from its begin to where it stands, call by call, while nobody else acts.
 use Rattle.std.proofs.Common.{◌≡◌, ◌≢◌, List, [], ◌∷◌, Some, refl, sym, ap, ◌∙◌}
 use Rattle.cloud_trait.proofs.EffectLemmas.{grown_itself}
-use Rattle.cloud_trait.specs.declared.answer.Answer.{Answer}
+use Rattle.cloud_facts.specs.Words.{Answer, CloudState, Ask, Next, Goes, Deed}
 use Rattle.cloud_trait.specs.declared.answer.Answer.TheVariants.{Failed, Memory}
-use Rattle.cloud_trait.specs.Ask.{Ask}
-use Rattle.cloud_trait.specs.Machine.{Next, Goes, Deed, Came, Follows}
-use Rattle.cloud_trait.specs.State.{CloudState}
+use Rattle.cloud_trait.specs.Machine.{Came, Follows}
 use Rattle.session_facts.proofs.Settling.Trails.{IsBetween, Trail}
 use Rattle.session_facts.specs.Settling.Runs.{AreDelivered}
 use Rattle.session_facts.specs.Writers.Alone.{AreAnswered}

@@ -1,17 +1,11 @@
 -- A checkpoint that is done while nobody else acts, and no call of which failed, leaves none of at most 256 messages; and it sends none.
 use Rattle.std.proofs.Common.{◌≡◌, ◌≢◌, ◌≤◌, ℕ, List, [], ◌∷◌, length, Option, Some, None, refl, sym, ap, subst, ◌∙◌}
-use Rattle.cloud_trait.specs.declared.answer.Answer.{Answer}
+use Rattle.cloud_facts.specs.Words.{IsTree, QueueName, Answer, Ended, CloudState, Claim, Ask, Send, Delete, Release, Goes, Ends, Stops, Deed, calls_of, done_of}
 use Rattle.cloud_trait.specs.declared.answer.Answer.TheVariants.{Failed, Memory, Done}
 use Rattle.cloud_trait.specs.declared.turn.CkptAnswer.{CkptAnswer}
-use Rattle.cloud_trait.specs.declared.turn.Turn.TheVariants.{Ended}
-use Rattle.cloud_trait.specs.Ask.{Ask, Delete, Release, Send}
-use Rattle.cloud_trait.specs.Claim.{Claim}
-use Rattle.cloud_trait.specs.Machine.{Goes, Ends, Stops, Deed, Came, calls_of}
-use Rattle.cloud_trait.specs.State.{CloudState}
-use Rattle.cloud_trait.specs.Views.{done_of}
+use Rattle.cloud_trait.specs.Machine.{Came}
 use Rattle.cloud_trait.specs.Weather.{Fits}
-use Rattle.db_base.specs.Ids.{IsTree, IsPage}
-use Rattle.db_base.specs.declared.names.QueueName.{QueueName}
+use Rattle.db_base.specs.Ids.{IsPage}
 use Rattle.db_base.specs.declared.names.QueueName.TheVariants as queue
 use Rattle.page_ckpt.proofs.Meaning.{went_knows, knows_done}
 use Rattle.page_ckpt.proofs.Outcomes.{Comes as PageStep, comes as page_step}

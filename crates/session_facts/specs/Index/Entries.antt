@@ -1,7 +1,6 @@
 -- When the index of a tree has an entry for each record with an attribute.
 use Rattle.std.specs.Prelude.{ℕ, ◌≡◌, ◌<◌, ◌≤◌, List, length, Some}
-use Rattle.cloud_facts.specs.Book.Records.{IsIn}
-use Rattle.cloud_trait.specs.State.{CloudState}
+use Rattle.cloud_facts.specs.Words.{Entry, CloudState, IsIn}
 use Rattle.db_base.specs.Entry.{entry_bytes, index_insert}
 use Rattle.db_base.specs.Ids.{index_of}
 use Rattle.db_base.specs.Value.{Value}
@@ -10,7 +9,6 @@ use Rattle.history.specs.Fold.{fold, of_tree}
 use Rattle.history.specs.Legal.{IsLegal}
 use Rattle.replay_meaning.specs.Index.{Finds}
 use Rattle.replay_meaning.specs.Right.{HoldsAll}
-use Rattle.report_types.specs.declared.entry.Entry.{Entry}
 
 -- ---- what is committed
 

@@ -1,17 +1,14 @@
 -- When a look-up that came to a leaf sees what is stored: the leaf is the newest one, and nothing is left to apply in its tree.
 use Rattle.std.specs.Prelude.{ℕ, ◌≡◌, ◌≤◌, true, List, None}
-use Rattle.cloud_facts.specs.Book.Records.{IsIn}
-use Rattle.cloud_trait.specs.State.{CloudState}
+use Rattle.cloud_facts.specs.Words.{Entry, Leaf, CloudState, IsIn}
 use Rattle.db_base.specs.Change.{key_of}
 use Rattle.head_codec.specs.declared.lists.Pending.{Pending}
 use Rattle.history.specs.Fold.{of_tree}
 use Rattle.leaf_view.specs.Fits.{Ascend}
-use Rattle.leaf_view.specs.Leaf.{Leaf}
 use Rattle.leaf_view.specs.Lookup.{holds, value_of, number_of}
 use Rattle.recover_run.specs.declared.home.Home.{Home}
 use Rattle.replay_meaning.specs.Index.{Finds}
 use Rattle.replay_meaning.specs.Right.{stored_below, value_at}
-use Rattle.report_types.specs.declared.entry.Entry.{Entry}
 use Rattle.report_types.specs.declared.stored.Stored.{Stored}
 use Rattle.world_audit.specs.Counts.{heads_upto, AreWaiting}
 

@@ -1,11 +1,9 @@
 -- What a commit that was answered has among what was committed.
 use Rattle.std.specs.Prelude.{ℕ, List}
-use Rattle.db_base.specs.declared.trouble.CommitAnswer.{CommitAnswer}
+use Rattle.cloud_facts.specs.Words.{CommitAnswer, Entry, IsIn}
 use Rattle.db_base.specs.declared.trouble.CommitAnswer.TheVariants.{Committed, NotCommitted, InDoubt, CommittedOpen}
-use Rattle.cloud_facts.specs.Book.Records.{IsIn}
 use Rattle.history.specs.Audited.{committed_entry}
 use Rattle.replay_meaning.specs.Standing.{Posture, Working, Committing}
-use Rattle.report_types.specs.declared.entry.Entry.{Entry}
 use Rattle.reply_text.specs.declared.reply.Reply.{Reply}
 use Rattle.reply_text.specs.declared.reply.Reply.TheVariants as reply
 use Rattle.txn_buffer.specs.Noted.{Noted}

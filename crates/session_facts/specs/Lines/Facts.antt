@@ -1,14 +1,13 @@
 -- What holds after every line of a replay, of the cloud and of all sessions.
 use Rattle.std.specs.Prelude.{ℕ, ◌≡◌, ◌≤◌, ◌+◌, Bool, false, List, [], length, slice_get, unwrap_or, Some, All}
 use Rattle.cloud_trait.specs.Growth.{BeginsWith}
-use Rattle.cloud_trait.specs.State.{CloudState}
+use Rattle.cloud_facts.specs.Words.{Entry, CloudState, Book}
 use Rattle.cloud_trait.specs.Upto.{IsUpto}
 use Rattle.cloud_trait.specs.declared.state.Landing.{Landing}
 use Rattle.cloud_trait.specs.declared.state.Site.{Site}
 use Rattle.cloud_trait.specs.declared.state.Site.TheVariants.{Object, Queue}
 use Rattle.history.specs.Fold.{of_tree}
 use Rattle.history.specs.Audited.{Audited}
-use Rattle.report_types.specs.declared.entry.Entry.{Entry}
 use Rattle.reply_text.specs.declared.reply.Reply.{Reply}
 use Rattle.reply_text.specs.declared.reply.Reply.TheVariants as reply
 use Rattle.client_work.specs.declared.work.Work.{Work}
@@ -22,7 +21,6 @@ use Rattle.commit_run.specs.Run.{home_of}
 use Rattle.session_facts.specs.Lines.Running.{IsOpening, IsSettledHead, IsRunning, IsOfTree}
 use Rattle.cloud_facts.specs.Calls.Looks.{audit_of}
 use Rattle.session_facts.specs.Sessions.Knows.{Sessions, SessionsStand}
-use Rattle.cloud_facts.specs.Book.Book.{Book}
 use Rattle.cloud_facts.specs.Book.Records.{entries_of}
 
 -- ---- the sessions of a list

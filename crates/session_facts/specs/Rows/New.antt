@@ -1,9 +1,7 @@
 -- What is known of a transaction whose open head is to be put.
 use Rattle.std.specs.Prelude.{ℕ, ◌≡◌, List, length}
-use Rattle.head_codec.specs.declared.head.Head.{Head}
+use Rattle.cloud_facts.specs.Words.{AtomicRec, Head, IsIn}
 use Rattle.head_codec.specs.declared.head.Phase.TheVariants as phase
-use Rattle.log_codec.specs.declared.record.AtomicRec.{AtomicRec}
-use Rattle.cloud_facts.specs.Book.Records.{IsIn}
 use Rattle.txn_buffer.specs.Noted.{Noted}
 
 -- the head counts the changes that are committed, and nothing of its client's transaction is in the log yet

@@ -1,9 +1,7 @@
 -- Which open heads a session may have put into a trace, by what it works on: those of its epoch up to its last transaction number.
 use Rattle.std.specs.Prelude.{ℕ, ◌≡◌, ◌<◌, ◌+◌, List, ◌++◌, Some, All, slice_get}
-use Rattle.cloud_trait.specs.State.{CloudState}
-use Rattle.cloud_trait.specs.Seen.{Seen}
+use Rattle.cloud_facts.specs.Words.{Head, CloudState, Seen}
 use Rattle.cloud_trait.specs.declared.state.Landing.{Landing}
-use Rattle.head_codec.specs.declared.head.Head.{Head}
 use Rattle.recover_run.specs.declared.home.Home.{Home}
 use Rattle.commit_writes.specs.declared.stage.Stage.{Stage}
 use Rattle.commit_writes.specs.declared.stage.Stage.TheVariants as commit

@@ -6,12 +6,7 @@ use Rattle.client_work.specs.declared.answer.Answer.{Answer}
 use Rattle.client_work.specs.declared.answer.Answer.TheVariants as answer
 use Rattle.client_work.specs.declared.work.Work.{Work}
 use Rattle.cloud_trait.specs.declared.answer.Answer.TheVariants.{Memory}
-use Rattle.cloud_trait.specs.declared.turn.Turn.{Turn}
-use Rattle.cloud_trait.specs.declared.turn.Turn.TheVariants.{Ended}
-use Rattle.cloud_trait.specs.Ask.{Ask}
-use Rattle.cloud_trait.specs.Caller.{Caller}
-use Rattle.cloud_trait.specs.Seen.{Seen}
-use Rattle.cloud_trait.specs.State.{CloudState}
+use Rattle.cloud_facts.specs.Words.{Turn, Ended, CloudState, Caller, Seen, Ask}
 use Rattle.db_base.specs.declared.trouble.Trouble.TheVariants as trouble
 use Rattle.session_facts.specs.Sessions.Calls.{reply_of}
 use Rattle.session_facts.specs.Sessions.Knows.{leases_of}

@@ -7,16 +7,10 @@ use Rattle.client_work.specs.declared.answer.Answer.TheVariants as answer
 use Rattle.client_work.specs.declared.shown.Shown.{Shown}
 use Rattle.client_work.specs.declared.work.Work.{Work}
 use Rattle.client_work.specs.declared.work.Work.TheVariants.{Closed, Idle, Opening, Committing, Reading, Scanning, Looking, Folding, Paging, Closing, Renewing, Settling, Sweeping, Broken}
-use Rattle.cloud_trait.specs.declared.answer.Answer.{Answer as Reply}
+use Rattle.cloud_facts.specs.Words.{Answer as Reply, Turn, More, Ended, CloudState, Caller, Seen, Claim, Ask, Release}
 use Rattle.cloud_trait.specs.declared.answer.Answer.TheVariants.{Memory}
-use Rattle.cloud_trait.specs.declared.turn.Turn.{Turn}
-use Rattle.cloud_trait.specs.declared.turn.Turn.TheVariants.{More, Ended}
-use Rattle.cloud_trait.specs.Ask.{Ask, Release}
-use Rattle.cloud_trait.specs.Caller.{Caller}
-use Rattle.cloud_trait.specs.Claim.{Claim, IsOver}
+use Rattle.cloud_trait.specs.Claim.{IsOver}
 use Rattle.cloud_trait.specs.Growth.{HasGrown}
-use Rattle.cloud_trait.specs.Seen.{Seen}
-use Rattle.cloud_trait.specs.State.{CloudState}
 use Rattle.cloud_trait.specs.Weather.{Rose}
 use Rattle.db_base.specs.declared.trouble.Trouble.TheVariants.{Waiting}
 use Rattle.commit_run.specs.Run.{Run}

@@ -5,20 +5,14 @@ use Rattle.client_work.specs.declared.answer.Answer.{Answer}
 use Rattle.client_work.specs.declared.answer.Answer.TheVariants as answer
 use Rattle.client_work.specs.declared.work.Work.{Work}
 use Rattle.client_work.specs.declared.work.Work.TheVariants.{Closed, Idle, Opening, Committing, Reading, Scanning, Looking, Folding, Paging, Closing, Renewing, Settling, Sweeping, Broken}
-use Rattle.cloud_facts.specs.Book.Records.{IsIn}
+use Rattle.cloud_facts.specs.Words.{Trouble, CommitAnswer, Turn, More, Ended, Stopped, CloudState, Claim, Ask, Receive, Next, Goes, Ends, Stops, IsIn}
 use Rattle.cloud_trait.specs.declared.turn.CkptAnswer.{CkptAnswer}
-use Rattle.cloud_trait.specs.declared.turn.Turn.{Turn}
-use Rattle.cloud_trait.specs.declared.turn.Turn.TheVariants.{More, Ended, Stopped}
-use Rattle.cloud_trait.specs.Ask.{Ask, Receive}
-use Rattle.cloud_trait.specs.Claim.{Claim, IsOver}
-use Rattle.cloud_trait.specs.Machine.{Next, Goes, Ends, Stops}
-use Rattle.cloud_trait.specs.State.{CloudState, Counts}
+use Rattle.cloud_trait.specs.Claim.{IsOver}
+use Rattle.cloud_trait.specs.State.{Counts}
 use Rattle.cloud_trait.specs.Weather.{Rose}
 use Rattle.db_base.specs.declared.names.QueueName.TheVariants as queue
 use Rattle.db_base.specs.declared.trouble.Counter.{Counter}
-use Rattle.db_base.specs.declared.trouble.CommitAnswer.{CommitAnswer}
 use Rattle.db_base.specs.declared.trouble.CommitAnswer.TheVariants.{Committed, NotCommitted, InDoubt, CommittedOpen}
-use Rattle.db_base.specs.declared.trouble.Trouble.{Trouble}
 use Rattle.db_base.specs.declared.trouble.Trouble.TheVariants as trouble
 use Rattle.recover_run.specs.Recovery.{Recovery}
 use Rattle.recover_run.specs.declared.stage.RecoverAnswer.{RecoverAnswer}

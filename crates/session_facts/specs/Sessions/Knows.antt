@@ -6,14 +6,12 @@ use Rattle.client_work.specs.declared.op.Op.TheVariants as op
 use Rattle.client_work.specs.declared.work.Work.{Work}
 use Rattle.client_work.specs.declared.work.Work.TheVariants.{Closed, Idle, Opening, Committing, Reading, Scanning, Looking, Folding, Paging, Closing, Renewing, Settling, Sweeping, Broken}
 use Rattle.cloud_facts.specs.Calls.Looks.{audit_of}
-use Rattle.cloud_facts.specs.Calls.Standing.{StandsUnder}
-use Rattle.cloud_trait.specs.Claim.{Claim}
+use Rattle.cloud_facts.specs.Words.{IsClient, IsTree, Entry, CloudState, newest, Claim, Book, Store, at, store_of, StandsUnder}
 use Rattle.cloud_trait.specs.Growth.{BeginsWith}
-use Rattle.cloud_trait.specs.State.{CloudState, newest}
 use Rattle.session_facts.specs.Machines.Commits.Knows.{MayCommit}
 use Rattle.commit_run.specs.Run.{home_of as home_of_run}
 use Rattle.session_facts.specs.Machines.CommitRuns.Knows.{KnowsRun}
-use Rattle.db_base.specs.Ids.{IsClient, IsTree, IsPage}
+use Rattle.db_base.specs.Ids.{IsPage}
 use Rattle.cloud_facts.specs.Homes.Homes.{Part, Away, Parts, HomesHold}
 use Rattle.cloud_facts.specs.Leases.Leases.{Hands, LeasesHold}
 use Rattle.session_facts.specs.Machines.Openings.Client.{KnowsClient}
@@ -21,16 +19,12 @@ use Rattle.session_facts.specs.Machines.Openings.Knows.{KnowsOpening, leases_of_
 use Rattle.page_cache.specs.Cache.{Cache}
 use Rattle.session_facts.specs.Machines.PageCheckpoints.Knows.{KnowsPaging, leases_of_paging}
 use Rattle.recover_run.specs.declared.home.Home.{Home}
-use Rattle.report_types.specs.declared.entry.Entry.{Entry}
 use Rattle.session_facts.specs.Machines.Looks.Knows.{KnowsLook}
 use Rattle.session_facts.specs.Machines.Scans.Knows.{KnowsScan}
 use Rattle.session_facts.specs.Sessions.Audited.{audited}
 use Rattle.session_facts.specs.Machines.Settlings.Knows.{KnowsSettling, leases_of_settling}
 use Rattle.session_facts.specs.Machines.Sweeps.Knows.{KnowsSweep, leases_of_sweep}
-use Rattle.cloud_facts.specs.Book.Book.{Book}
 use Rattle.cloud_facts.specs.Book.Growth.{Grows}
-use Rattle.cloud_facts.specs.Book.Tally.{Store, at}
-use Rattle.cloud_facts.specs.Tellings.Told.{store_of}
 use Rattle.session_facts.specs.Machines.TreeCheckpoints.Knows.{KnowsMaking, leases_of_making}
 use Rattle.session_facts.specs.Machines.Walks.Caches.{KnowsCache}
 use Rattle.session_facts.specs.Machines.Walks.Knows.{KnowsWalk}

@@ -1,20 +1,15 @@
 -- Counters that stand at their last value, by what a cloud tells.
 use Rattle.std.specs.Prelude.{ℕ, ◌≡◌, ◌<◌, ◌≤◌, ◌⊎◌, ◌+◌, ◌-◌, ◌*◌, ◌^◌, length, Some}
 use Rattle.std.specs.Option.{option_and_then}
-use Rattle.cloud_facts.specs.Book.Records.{IsIn}
-use Rattle.cloud_facts.specs.Book.Tally.{Node, Leafy, version_of}
-use Rattle.cloud_facts.specs.Book.Telling.{nodes_of, roots_of}
-use Rattle.cloud_trait.specs.State.{CloudState}
-use Rattle.cloud_trait.specs.declared.state.Version.{Version}
+use Rattle.cloud_facts.specs.Words.{Head, Leaf, Tree, Version, CloudState, Node, Leafy, IsIn, nodes_of, roots_of}
+use Rattle.cloud_facts.specs.Book.Tally.{version_of}
 use Rattle.db_base.specs.declared.names.ObjName.TheVariants as object
 use Rattle.db_base.specs.declared.names.QueueName.TheVariants.{TreePu}
 use Rattle.db_base.specs.declared.trouble.Counter.{Counter}
 use Rattle.db_base.specs.declared.trouble.Counter.TheVariants as counter
 use Rattle.head_codec.specs.Spelling.{head_of}
-use Rattle.head_codec.specs.declared.head.Head.{Head}
-use Rattle.leaf_view.specs.Leaf.{Leaf}
 use Rattle.leaf_view.specs.Lookup.{empty_leaf}
-use Rattle.node_codec.specs.Tree.{Tree, empty_tree}
+use Rattle.node_codec.specs.Tree.{empty_tree}
 use Rattle.route_plan.specs.Queue.{number_of_queue}
 use Rattle.split_plan.specs.Sizes.{count_of}
 

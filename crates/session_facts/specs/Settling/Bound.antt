@@ -1,13 +1,11 @@
 -- How many calls a settling makes at most, by the states at its begin and at its end.
 use Rattle.std.specs.Prelude.{ℕ, zero, suc, ◌≡◌, ◌+◌, ◌-◌, ◌*◌, ◌≤◌, List, [], ◌∷◌, length, map}
 use Rattle.cloud_facts.specs.Book.Telling.{head_in, last_or}
-use Rattle.cloud_trait.specs.State.{CloudState}
-use Rattle.db_base.specs.Ids.{IsPage, IsTree}
+use Rattle.cloud_facts.specs.Words.{IsTree, QueueName, Head, CloudState}
+use Rattle.db_base.specs.Ids.{IsPage}
 use Rattle.db_base.specs.declared.names.ObjName.TheVariants as object
-use Rattle.db_base.specs.declared.names.QueueName.{QueueName}
 use Rattle.db_base.specs.declared.names.QueueName.TheVariants as queue
 use Rattle.head_codec.specs.Head.{empty_head}
-use Rattle.head_codec.specs.declared.head.Head.{Head}
 use Rattle.recover_run.specs.Gathering.{count_of}
 use Rattle.session_facts.specs.Machines.TreeCheckpoints.Few.{next_page}
 use Rattle.session_facts.specs.Settling.Runs.{waiting, right_at}

@@ -1,11 +1,7 @@
 -- The locks of a cloud on which nobody has a lease but one session.
 use Rattle.std.specs.Prelude.{ℕ, ◌≡◌, ◌≢◌, ◌<◌, ◌≤◌, ◌⊎◌, List, [], ◌∷◌}
-use Rattle.cloud_facts.specs.Book.Records.{IsIn}
+use Rattle.cloud_facts.specs.Words.{Lock, CloudState, Claim, Ask, Take, Renew, Release, IsIn}
 use Rattle.cloud_trait.specs.declared.state.Hold.{Hold}
-use Rattle.cloud_trait.specs.Ask.{Ask, Take, Renew, Release}
-use Rattle.cloud_trait.specs.Claim.{Claim}
-use Rattle.cloud_trait.specs.State.{CloudState}
-use Rattle.db_base.specs.declared.names.Lock.{Lock}
 
 -- a lock stands as the lease says: in its generation, and held until its end
 pub record StandsAs (c : Claim) (hold : Hold) : Type 0 where

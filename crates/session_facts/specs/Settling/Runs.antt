@@ -3,15 +3,11 @@ use Rattle.std.specs.Prelude.{ℕ, ◌≡◌, ◌+◌, ◌*◌, ◌≤◌, List,
 use Rattle.cloud_trait.specs.Calm.{AreCalm}
 use Rattle.cloud_trait.specs.Plenty.{HadMemory}
 use Rattle.ckpt_parts.specs.Intakes.{ids_of}
-use Rattle.cloud_facts.specs.Book.Records.{IsIn}
+use Rattle.cloud_facts.specs.Words.{QueueName, CloudState, Deed, IsIn, nodes_of}
 use Rattle.cloud_facts.specs.Book.Tally.{right_of}
-use Rattle.cloud_facts.specs.Book.Telling.{nodes_of}
 use Rattle.cloud_facts.specs.Chains.Links.{newest_node}
 use Rattle.cloud_trait.specs.declared.message.Message.{Message}
 use Rattle.cloud_trait.specs.Delivery.{unmarked, IsDelivering}
-use Rattle.cloud_trait.specs.Machine.{Deed}
-use Rattle.cloud_trait.specs.State.{CloudState}
-use Rattle.db_base.specs.declared.names.QueueName.{QueueName}
 use Rattle.db_base.specs.declared.names.QueueName.TheVariants as queue
 use Rattle.head_codec.specs.declared.head.Phase.TheVariants.{Settled}
 use Rattle.page_ckpt.specs.Paging.{Paging}

@@ -1,13 +1,9 @@
 -- The story of a part of a settling: its calls, with all that stands before and behind each, where nobody else acts in between.
 use Rattle.std.specs.Prelude.{◌≡◌, List, [], ◌∷◌, Some}
 use Rattle.client_work.specs.declared.work.Work.TheVariants as work
-use Rattle.cloud_facts.specs.Book.Book.{Book}
+use Rattle.cloud_facts.specs.Words.{Entry, CloudState, Goes, Ends, Deed, Book, Store, store_of}
 use Rattle.cloud_facts.specs.Book.Growth.{Grows}
-use Rattle.cloud_facts.specs.Book.Tally.{Store}
-use Rattle.cloud_facts.specs.Tellings.Told.{store_of}
-use Rattle.cloud_trait.specs.Machine.{Goes, Ends, Deed, IsMade}
-use Rattle.cloud_trait.specs.State.{CloudState}
-use Rattle.report_types.specs.declared.entry.Entry.{Entry}
+use Rattle.cloud_trait.specs.Machine.{IsMade}
 use Rattle.session_facts.specs.Sessions.Knows.{Sessions, SessionsStand}
 use Rattle.settle_run.specs.declared.part.Part.{Part}
 use Rattle.settle_run.specs.Parts.{part_again, part_ask, PartLeads}

@@ -4,14 +4,11 @@ use Rattle.client_work.specs.Session.{CommitsOf, StepsCommit}
 use Rattle.client_work.specs.declared.answer.Answer.TheVariants as answer
 use Rattle.client_work.specs.declared.answer.Begun.TheVariants.{Answered}
 use Rattle.client_work.specs.declared.work.Work.{Work}
-use Rattle.cloud_trait.specs.Caller.{Caller}
-use Rattle.cloud_trait.specs.Machine.{Ends, LeadsBy, Took}
-use Rattle.cloud_trait.specs.Seen.{Seen}
+use Rattle.cloud_facts.specs.Words.{Trouble, CommitAnswer, Answer, Ended, Caller, Seen, Ends}
+use Rattle.cloud_trait.specs.Machine.{LeadsBy, Took}
 use Rattle.cloud_trait.specs.Views.{trouble_of}
 use Rattle.cloud_trait.specs.Weather.{Fits}
-use Rattle.cloud_trait.specs.declared.answer.Answer.{Answer}
 use Rattle.cloud_trait.specs.declared.answer.Answer.TheVariants as call
-use Rattle.cloud_trait.specs.declared.turn.Turn.TheVariants.{Ended}
 use Rattle.commit_run.proofs.Causes.{WalkCause, write_causes, walk_causes}
 use Rattle.commit_run.proofs.CallDemands.{ready_exact}
 use Rattle.commit_run.specs.Causes.{TellsOf, ShowsIn}
@@ -20,10 +17,8 @@ use Rattle.commit_run.specs.Run.{Run, KeepsHome, ask_at, new_run, run_next, run_
 use Rattle.commit_run.specs.Trips.{left_by_turn}
 use Rattle.commit_run.specs.declared.hand.Hand.{Hand}
 use Rattle.commit_run.specs.declared.hand.Hand.TheVariants.{Writes, First, Change}
-use Rattle.db_base.specs.declared.trouble.CommitAnswer.{CommitAnswer}
 use Rattle.db_base.specs.declared.trouble.CommitAnswer.TheVariants.{NotCommitted}
 use Rattle.db_base.specs.declared.trouble.Counter.TheVariants as counter
-use Rattle.db_base.specs.declared.trouble.Trouble.{Trouble}
 use Rattle.db_base.specs.declared.trouble.Trouble.TheVariants as trouble
 use Rattle.page_cache.specs.Cache.{Cache}
 use Rattle.recover_run.specs.declared.home.Home.{Home}

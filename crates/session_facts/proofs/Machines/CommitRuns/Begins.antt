@@ -2,9 +2,7 @@
 use Rattle.std.proofs.Common.{◌≡◌, ◌≤◌, ℕ, Bool, true, false, cond, List, length, Option, Some, None, refl, subst}
 use Rattle.std.specs.Prelude.{nat_lt, slice_get}
 use Rattle.std.specs.Option.{option_map}
-use Rattle.cloud_trait.specs.Claim.{Claim}
-use Rattle.cloud_facts.specs.Calls.Standing.{StandsUnder}
-use Rattle.cloud_trait.specs.State.{CloudState}
+use Rattle.cloud_facts.specs.Words.{IsTree, Trouble, Entry, CloudState, Claim, Book, Store, at, store_of, StandsUnder}
 use Rattle.session_facts.specs.Machines.Commits.Knows.{MayCommit}
 use Rattle.session_facts.proofs.Machines.Commits.Begins.{KnowsHeld}
 use Rattle.commit_run.specs.Draft.{Draft, new_draft}
@@ -15,9 +13,7 @@ use Rattle.session_facts.proofs.Machines.CommitRuns.Refusals.{RefusesAtMost, rea
 use Rattle.session_facts.proofs.Machines.CommitRuns.Leases.{RunLeaseStays, ready_lease}
 use Rattle.session_facts.proofs.Machines.CommitRuns.Nexts.{RunStep, LedTo, walk_first, walk_to_led, plan_on_led}
 use Rattle.commit_writes.specs.Writing.{waiting, with_attempt, with_home, is_spent}
-use Rattle.db_base.specs.Ids.{IsTree}
 use Rattle.db_base.specs.declared.trouble.Counter.TheVariants as counter
-use Rattle.db_base.specs.declared.trouble.Trouble.{Trouble}
 use Rattle.db_base.specs.declared.trouble.Trouble.TheVariants as trouble
 use Rattle.head_codec.specs.declared.lists.Pending.{Pending}
 use Rattle.cloud_facts.specs.Homes.Homes.{Part, Parts, HomesHold}
@@ -25,10 +21,6 @@ use Rattle.cloud_facts.proofs.Homes.HomeLemmas.{keeps_part}
 use Rattle.cloud_facts.specs.Landings.Holding.{Holds}
 use Rattle.page_cache.specs.Cache.{Cache}
 use Rattle.recover_run.specs.declared.home.Home.{Home as Held}
-use Rattle.report_types.specs.declared.entry.Entry.{Entry}
-use Rattle.cloud_facts.specs.Book.Book.{Book}
-use Rattle.cloud_facts.specs.Book.Tally.{Store, at}
-use Rattle.cloud_facts.specs.Tellings.Told.{store_of}
 use Rattle.tree_walk.specs.Walk.{new_walk, walk_ready}
 use Rattle.txn_buffer.specs.Noted.{Noted}
 use Rattle.session_facts.specs.Machines.Walks.Caches.{KnowsCache}

@@ -1,9 +1,7 @@
 -- The lease of a commit run.
 use Rattle.std.proofs.Common.{inl, ℕ, [], ◌∷◌}
 use Rattle.cloud_facts.specs.Calls.Acting.{Handles}
-use Rattle.cloud_trait.specs.declared.answer.Answer.{Answer}
-use Rattle.cloud_trait.specs.Caller.{Caller}
-use Rattle.cloud_trait.specs.State.{CloudState}
+use Rattle.cloud_facts.specs.Words.{Answer, CloudState, Caller, Store}
 use Rattle.session_facts.proofs.Machines.Commits.Hands.{commit_handles}
 use Rattle.commit_run.specs.declared.hand.Hand.{Hand}
 use Rattle.commit_run.specs.declared.hand.Hand.TheVariants.{Writes, First, Change}
@@ -12,7 +10,6 @@ use Rattle.commit_run.specs.Sound.{IsSoundAt, IsSoundRun}
 use Rattle.session_facts.specs.Machines.CommitRuns.Knows.{KnowsHand, KnowsRun}
 use Rattle.cloud_facts.specs.Homes.Homes.{Part}
 use Rattle.page_cache.specs.Cache.{Cache}
-use Rattle.cloud_facts.specs.Book.Tally.{Store}
 
 -- a put names the home's lease, which guards the head; the lease stays as it is
 pub run_handles : (who : Caller) (s t : CloudState) (m : Run × Cache) (reply : Answer) (st : Store) (now : ℕ) (part : Part) → KnowsRun st now m part → IsSoundRun m.0

@@ -1,7 +1,6 @@
 -- The puts of heads that a commit run has in hand.
 use Rattle.std.proofs.Common.{◌≡◌, ◌⊎◌, inl, inr, ℕ, List, Option, None}
-use Rattle.cloud_trait.specs.Ask.{PutHeld}
-use Rattle.cloud_trait.specs.Claim.{Claim}
+use Rattle.cloud_facts.specs.Words.{Claim, PutHeld, Store}
 use Rattle.session_facts.specs.Machines.Commits.HeadPuts.{OpensHead, PutsHead}
 use Rattle.session_facts.proofs.Machines.Commits.HeadPuts.{commit_puts}
 use Rattle.commit_run.specs.declared.hand.Hand.{Hand}
@@ -16,7 +15,6 @@ use Rattle.db_base.specs.declared.names.ObjName.TheVariants as object
 use Rattle.head_codec.specs.declared.head.Phase.TheVariants as phase
 use Rattle.cloud_facts.specs.Homes.Homes.{Part}
 use Rattle.page_cache.specs.Cache.{Cache}
-use Rattle.cloud_facts.specs.Book.Tally.{Store}
 
 -- what is written puts what the commit puts
 writes_put : (d : Draft) (client : ℕ) (bytes : List ℕ) → PutsHead d.writes client bytes → PutsRun (record { draft = d; hand = Writes }) client bytes

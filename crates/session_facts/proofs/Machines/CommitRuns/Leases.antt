@@ -1,8 +1,6 @@
 -- A commit run never changes its home's lease.
 use Rattle.std.proofs.Common.{◌≡◌, List, refl, sym, subst, ◌∙◌, inl, inr, true, false}
-use Rattle.cloud_trait.specs.declared.answer.Answer.{Answer}
-use Rattle.cloud_trait.specs.Claim.{Claim}
-use Rattle.cloud_trait.specs.Machine.{Next, Goes, Ends, Stops}
+use Rattle.cloud_facts.specs.Words.{CommitAnswer, Answer, Claim, Next, Goes, Ends, Stops}
 use Rattle.session_facts.proofs.Machines.Commits.Leases.{LeaseStays, logs_lease, next_lease}
 use Rattle.commit_run.specs.declared.hand.Hand.{Hand}
 use Rattle.commit_run.specs.declared.hand.Hand.TheVariants.{Writes, First, Change}
@@ -12,7 +10,6 @@ use Rattle.commit_writes.proofs.Outcomes.{begins}
 use Rattle.commit_writes.specs.Writing.{Writing, begun, writing_next}
 use Rattle.commit_run.proofs.Outcomes as step
 use Rattle.commit_run.proofs.Outcomes.{NextRun, Leads, BeginsWith, records_of, taken, turned_leads, ready_leads}
-use Rattle.db_base.specs.declared.trouble.CommitAnswer.{CommitAnswer}
 use Rattle.page_cache.specs.Cache.{Cache}
 use Rattle.recover_run.specs.declared.home.Home.{Home}
 use Rattle.tree_walk.specs.Walk.{walk_next}

@@ -2,7 +2,7 @@
 use Rattle.std.proofs.Common.{◌≡◌, ℕ, Bool, true, false, cond, List, length, Option, Some, None, refl, sym, ap, subst, ◌∙◌}
 use Rattle.std.specs.Prelude.{slice_get}
 use Rattle.std.specs.Option.{option_map}
-use Rattle.cloud_trait.specs.Machine.{Next, Goes, Ends, Stops}
+use Rattle.cloud_facts.specs.Words.{IsTree, Trouble, CommitAnswer, ObjName, Leaf, Next, Goes, Ends, Stops, Store, IsIn}
 use Rattle.session_facts.specs.Machines.Commits.Knows.{KnowsNext, ReachesPart}
 use Rattle.session_facts.proofs.Machines.Commits.Begins.{taken_left, routing_reaches}
 use Rattle.commit_run.specs.declared.hand.Hand.TheVariants.{Writes}
@@ -12,20 +12,13 @@ use Rattle.session_facts.specs.Machines.CommitRuns.Knows.{KnowsDraft, KnowsSeeki
 use Rattle.session_facts.proofs.Machines.CommitRuns.Plans.{advanced_known, first_known, leaf_known}
 use Rattle.session_facts.proofs.Machines.CommitRuns.Prunes.{draft_prunes}
 use Rattle.commit_writes.specs.Writing.{Writing, routing}
-use Rattle.db_base.specs.Ids.{IsTree}
-use Rattle.db_base.specs.declared.names.ObjName.{ObjName}
-use Rattle.db_base.specs.declared.trouble.CommitAnswer.{CommitAnswer}
-use Rattle.db_base.specs.declared.trouble.Trouble.{Trouble}
 use Rattle.db_base.specs.declared.trouble.Trouble.TheVariants as trouble
 use Rattle.cloud_facts.specs.Homes.Homes.{Part, Away, Parts, HomesHold}
 use Rattle.cloud_facts.proofs.Homes.HomeLemmas.{away_keeps, keeps_part}
 use Rattle.cloud_facts.specs.Landings.Holding.{Holds}
-use Rattle.leaf_view.specs.Leaf.{Leaf}
 use Rattle.page_cache.specs.Cache.{Cache}
 use Rattle.page_cache.specs.Held.{leaf_at}
 use Rattle.route_plan.proofs.Places.{past_none}
-use Rattle.cloud_facts.specs.Book.Records.{IsIn}
-use Rattle.cloud_facts.specs.Book.Tally.{Store}
 use Rattle.tree_walk.specs.Walk.{Walk, object_of, new_walk, walk_ready}
 use Rattle.txn_buffer.specs.Noted.{Noted}
 use Rattle.session_facts.specs.Machines.Walks.Caches.{KnowsCache}

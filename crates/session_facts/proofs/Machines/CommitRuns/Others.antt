@@ -3,7 +3,7 @@ use Rattle.std.proofs.Common.{◌≡◌, ◌≤◌, ℕ, [], ◌∷◌, refl, sy
 use Rattle.cloud_facts.specs.Calls.Acting.{HasLeaseOf}
 use Rattle.cloud_facts.specs.Calls.Others.{Others, NoneJoins}
 use Rattle.cloud_facts.proofs.Calls.OthersLemmas.{home_others}
-use Rattle.cloud_trait.specs.Claim.{Claim}
+use Rattle.cloud_facts.specs.Words.{Claim, Store, IsIn}
 use Rattle.session_facts.proofs.Machines.Commits.Others.{commit_others, commit_lease}
 use Rattle.commit_run.specs.declared.hand.Hand.{Hand}
 use Rattle.commit_run.specs.declared.hand.Hand.TheVariants.{Writes, First, Change}
@@ -14,8 +14,6 @@ use Rattle.session_facts.proofs.Machines.CommitRuns.Plans.{plan_grows}
 use Rattle.db_base.specs.declared.names.Lock.TheVariants as lock
 use Rattle.cloud_facts.specs.Homes.Homes.{Part}
 use Rattle.page_cache.specs.Cache.{Cache}
-use Rattle.cloud_facts.specs.Book.Records.{IsIn}
-use Rattle.cloud_facts.specs.Book.Tally.{Store}
 use Rattle.tree_walk.specs.Walk.{Walk}
 use Rattle.session_facts.proofs.Machines.Walks.Caches.{cache_grows}
 use Rattle.session_facts.proofs.Machines.Walks.Outcome.{walk_grows}

@@ -1,13 +1,8 @@
 -- What a commit run knows after each of its calls, whatever it answered.
 use Rattle.std.proofs.Common.{◌≡◌, ℕ, Bool, true, false, List, [], ◌∷◌, refl, sym, subst}
 use Rattle.cloud_facts.specs.Calls.Acting.{Setting, Outcome}
-use Rattle.cloud_facts.specs.Calls.Call.{IsCall}
+use Rattle.cloud_facts.specs.Words.{Entry, Answer, CloudState, Caller, Claim, Ask, Book, Store, store_of, IsCall}
 use Rattle.cloud_facts.proofs.Calls.Outcomes.{quiet}
-use Rattle.cloud_trait.specs.declared.answer.Answer.{Answer}
-use Rattle.cloud_trait.specs.Ask.{Ask}
-use Rattle.cloud_trait.specs.Caller.{Caller}
-use Rattle.cloud_trait.specs.Claim.{Claim}
-use Rattle.cloud_trait.specs.State.{CloudState}
 use Rattle.session_facts.specs.Machines.Commits.Knows.{KnowsNext}
 use Rattle.session_facts.specs.Machines.Commits.Audited.{commit_note}
 use Rattle.session_facts.proofs.Machines.Commits.Outcome.{commit_outcome}
@@ -23,10 +18,6 @@ use Rattle.commit_writes.specs.Writing.{writing_ask, writing_next}
 use Rattle.cloud_facts.specs.Homes.Homes.{Part, Parts}
 use Rattle.history.specs.Audited.{Audited}
 use Rattle.page_cache.specs.Cache.{Cache}
-use Rattle.report_types.specs.declared.entry.Entry.{Entry}
-use Rattle.cloud_facts.specs.Book.Book.{Book}
-use Rattle.cloud_facts.specs.Book.Tally.{Store}
-use Rattle.cloud_facts.specs.Tellings.Told.{store_of}
 use Rattle.tree_walk.specs.Walk.{Walk, object_of, walk_ask, walk_next}
 use Rattle.session_facts.specs.Machines.Walks.Caches.{KnowsCache}
 use Rattle.session_facts.specs.Machines.Walks.Knows.{MayStopWalk}

@@ -12,16 +12,12 @@ use Rattle.session_facts.specs.Machines.Commits.Knows.{MayCommit, IsLeafFor, Are
 use Rattle.commit_run.specs.Ended.{Ended, ended_of, spans, page_at, leaf_at}
 use Rattle.commit_run.specs.Plan.{Plan, has_pending, page_without, pages_of, advanced, with_leaf, with_page}
 use Rattle.session_facts.specs.Machines.CommitRuns.Knows.{IsLinked, KnowsPlan}
-use Rattle.db_base.specs.Ids.{IsTree}
+use Rattle.cloud_facts.specs.Words.{IsTree, Leaf, Book, Link, Store, IsIn}
 use Rattle.db_base.specs.declared.change.Change.{Change}
 use Rattle.head_codec.specs.declared.lists.Pending.{Pending}
-use Rattle.leaf_view.specs.Leaf.{Leaf}
 use Rattle.node_codec.proofs.NodeLemmas.{not_below_empty}
-use Rattle.cloud_facts.specs.Book.Book.{Book, Link}
 use Rattle.cloud_facts.specs.Book.Growth.{Grows}
 use Rattle.cloud_facts.specs.Book.Premises.{IsLeafAtMost}
-use Rattle.cloud_facts.specs.Book.Records.{IsIn}
-use Rattle.cloud_facts.specs.Book.Tally.{Store}
 use Rattle.cloud_facts.proofs.Book.Places.{get_cases, get_single, in_either, in_none}
 use Rattle.session_facts.proofs.Machines.Commits.Others.{leaves_others}
 use Rattle.txn_buffer.specs.Noted.{Noted}

@@ -2,28 +2,21 @@
 use Rattle.std.proofs.Common.{◌≡◌, ℕ, Option, Some, None, refl, sym, subst, ◌∙◌, arith}
 use Rattle.cloud_facts.specs.Calls.Acting.{IsPruned, KnowsHome}
 use Rattle.cloud_facts.proofs.Calls.OthersLemmas.{pruned_again}
-use Rattle.cloud_trait.specs.Claim.{Lasts}
+use Rattle.cloud_facts.specs.Words.{IsTree, ObjName, Head, Leaf, Tree, Lasts, Store, IsIn}
 use Rattle.session_facts.specs.Machines.Openings.Client.{AreOfRecords, AreCounted}
 use Rattle.session_facts.specs.Machines.Commits.Knows.{KnowsTaken}
 use Rattle.commit_run.specs.Draft.{Draft, pruned_by_root, pruned_by_kept, pruned_with, pruned_behind}
 use Rattle.session_facts.specs.Machines.CommitRuns.Knows.{KnowsDraft}
 use Rattle.commit_writes.specs.Writing.{pruned}
-use Rattle.db_base.specs.Ids.{IsTree}
-use Rattle.db_base.specs.declared.names.ObjName.{ObjName}
 use Rattle.db_base.specs.declared.names.ObjName.TheVariants as object
-use Rattle.head_codec.specs.declared.head.Head.{Head}
 use Rattle.head_codec.specs.declared.lists.Pending.{Pending}
 use Rattle.cloud_facts.specs.Homes.Homes.{Part}
 use Rattle.cloud_facts.specs.Landings.Holding.{Holds}
-use Rattle.leaf_view.specs.Leaf.{Leaf}
-use Rattle.node_codec.specs.Tree.{Tree}
 use Rattle.page_cache.specs.Cache.{Cache}
 use Rattle.page_cache.specs.Held.{leaf_at, root_at}
 use Rattle.recover_run.specs.declared.home.Home.{Home as Held}
 use Rattle.route_plan.specs.Prune.{is_applied_in, pruned_by_leaf, is_covered_by, pruned_by_tree}
 use Rattle.cloud_facts.specs.Book.Premises.{IsLeafAtMost}
-use Rattle.cloud_facts.specs.Book.Records.{IsIn}
-use Rattle.cloud_facts.specs.Book.Tally.{Store}
 use Rattle.tree_walk.specs.Walk.{Walk, sought}
 use Rattle.session_facts.specs.Machines.Walks.Caches.{KnowsCache}
 use Rattle.session_facts.specs.Machines.Walks.Knows.{WasUsed, KnowsWalk}

@@ -1,9 +1,8 @@
 -- Which troubles a commit tells where its call found memory: not want of it, and an open head is one of the call's.
 use Rattle.std.proofs.Common.{sym, subst, inl, inr, ◌≢◌, true, false, List, refl}
 use Rattle.recover_run.specs.declared.home.Home.{Home}
-use Rattle.cloud_trait.specs.declared.answer.Answer.{Answer}
+use Rattle.cloud_facts.specs.Words.{Trouble, CommitAnswer, Answer, Next, Goes, Ends, Stops}
 use Rattle.cloud_trait.specs.declared.answer.Answer.TheVariants.{Got, Sent, Received, Listed, Done, Given, Held, Renewed, Late, Failed, Memory}
-use Rattle.cloud_trait.specs.Machine.{Next, Goes, Ends, Stops}
 use Rattle.cloud_trait.specs.Views.{trouble_of}
 use Rattle.commit_run.specs.declared.hand.Hand.{Hand}
 use Rattle.commit_run.specs.declared.hand.Hand.TheVariants.{Writes, First, Change}
@@ -14,9 +13,7 @@ use Rattle.commit_run.proofs.Outcomes as step
 use Rattle.commit_run.proofs.Outcomes.{NextRun, Leads, BeginsWith, taken, turned_leads, ready_leads}
 use Rattle.commit_writes.proofs.Outcomes as written
 use Rattle.commit_writes.proofs.Outcomes.{Leaves, Comes as Wrote, comes as wrote_by}
-use Rattle.db_base.specs.declared.trouble.CommitAnswer.{CommitAnswer}
 use Rattle.db_base.specs.declared.trouble.CommitAnswer.TheVariants.{NotCommitted, CommittedOpen}
-use Rattle.db_base.specs.declared.trouble.Trouble.{Trouble}
 use Rattle.db_base.specs.declared.trouble.Trouble.TheVariants as trouble
 use Rattle.page_cache.specs.Cache.{Cache}
 use Rattle.session_facts.proofs.Machines.CommitRuns.Nexts.{RunStep}

@@ -2,7 +2,7 @@
 use Rattle.std.proofs.Common.{◌≡◌, ◌≤◌, ℕ, Bool, true, false, cond, List, [], length, refl, sym, subst, ◌∙◌, arith}
 use Rattle.cloud_facts.specs.Calls.Acting.{KnowsHome}
 use Rattle.session_facts.specs.Machines.Openings.Client.{KnowsClient}
-use Rattle.cloud_trait.specs.Claim.{Lasts}
+use Rattle.cloud_facts.specs.Words.{AtomicRec, Lasts, Store, at, IsIn}
 use Rattle.session_facts.specs.Machines.Commits.Knows.{MayCommit, AreLeavesFor, attempt_of, IsOfAttempt, Routes, KnowsTaken, KnowsNext, ReachesPart}
 use Rattle.session_facts.proofs.Machines.Commits.Nexts.{Known, Stands, part_next, next_homes, logs_at}
 use Rattle.commit_writes.specs.Writing.{Writing, routed_of, passes, not_committed, begun, routing}
@@ -11,11 +11,8 @@ use Rattle.db_base.specs.declared.trouble.Trouble.TheVariants as trouble
 use Rattle.cloud_facts.specs.Homes.Homes.{Home, Part, AtHome, Parts, HomeHolds, PartHolds, HomesHold}
 use Rattle.cloud_facts.proofs.Homes.HomeLemmas.{begins_keeps, keeps_part}
 use Rattle.cloud_facts.specs.Lefts.Left.{WasLogged, Leaves}
-use Rattle.log_codec.specs.declared.record.AtomicRec.{AtomicRec}
 use Rattle.recover_run.specs.declared.home.Home.{Home as Held}
 use Rattle.cloud_facts.specs.Book.Messages.{IsLogMessage}
-use Rattle.cloud_facts.specs.Book.Records.{IsIn}
-use Rattle.cloud_facts.specs.Book.Tally.{Store, at}
 use Rattle.cloud_facts.proofs.Book.Places.{in_none}
 
 -- the home of a session that works on no commit

@@ -2,14 +2,10 @@
 use Rattle.std.proofs.Common.{◌≡◌, ◌+◌, ◌⊎◌, inl, inr, ℕ, List, [], ◌∷◌, Some, refl}
 use Rattle.std.specs.Prelude.{slice_get}
 use Rattle.cloud_facts.specs.Calls.Acting.{Outcome}
-use Rattle.cloud_facts.specs.Calls.Call.{IsCall}
+use Rattle.cloud_facts.specs.Words.{Entry, Answer, CloudState, called, Caller, Ask, Delete, done_of, Book, Store, at, store_of, IsCall}
 use Rattle.cloud_facts.proofs.Calls.Calls.{landed_or_not}
 use Rattle.cloud_facts.proofs.Calls.Outcomes.{stays, other_landed}
-use Rattle.cloud_trait.specs.declared.answer.Answer.{Answer}
-use Rattle.cloud_trait.specs.Ask.{Ask, Delete, Lands}
-use Rattle.cloud_trait.specs.Caller.{Caller}
-use Rattle.cloud_trait.specs.State.{CloudState, called}
-use Rattle.cloud_trait.specs.Views.{done_of}
+use Rattle.cloud_trait.specs.Ask.{Lands}
 use Rattle.session_facts.specs.Machines.Commits.Knows.{attempt_of, Deletes, KnowsNext}
 use Rattle.session_facts.specs.Machines.Commits.Audited.{noted_at}
 use Rattle.session_facts.proofs.Machines.Commits.Records.{messages_stay}
@@ -22,12 +18,8 @@ use Rattle.db_base.specs.declared.names.QueueName.TheVariants.{Atomic}
 use Rattle.cloud_facts.specs.Homes.Homes.{Home, Part, Parts, HomesHold}
 use Rattle.cloud_facts.proofs.Homes.HomeLemmas.{marked_keeps, keeps_part}
 use Rattle.cloud_facts.specs.Landings.Landing as landing
-use Rattle.report_types.specs.declared.entry.Entry.{Entry}
-use Rattle.cloud_facts.specs.Book.Book.{Book}
 use Rattle.cloud_facts.specs.Book.Effects.{after_log_mark}
-use Rattle.cloud_facts.specs.Book.Tally.{Store, at}
 use Rattle.cloud_facts.proofs.Book.GrowthLemmas.{log_mark_grows}
-use Rattle.cloud_facts.specs.Tellings.Told.{store_of}
 
 module _ (who : Caller) (book : Book) (order : List Entry) (s t : CloudState) (parts : Parts) (w : Writing) (reply : Answer) (part : Part) (g : Home)
     (ready : Ready who book order s t.now parts w part g) (a : Deletes (store_of book order s) t.now w g) (id : ℕ) (there : slice_get w.ids w.place ≡ Some id) where

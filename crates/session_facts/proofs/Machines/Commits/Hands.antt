@@ -2,9 +2,7 @@
 use Rattle.std.proofs.Common.{◌≡◌, inl, ℕ, [], ◌∷◌, Option, Some, None, refl}
 use Rattle.std.specs.Prelude.{slice_get}
 use Rattle.cloud_facts.specs.Calls.Acting.{Handles}
-use Rattle.cloud_trait.specs.declared.answer.Answer.{Answer}
-use Rattle.cloud_trait.specs.Caller.{Caller}
-use Rattle.cloud_trait.specs.State.{CloudState}
+use Rattle.cloud_facts.specs.Words.{AtomicRec, Answer, CloudState, Caller, Store}
 use Rattle.session_facts.specs.Machines.Commits.Knows.{KnowsCommitAt, KnowsCommit}
 use Rattle.commit_writes.specs.declared.stage.Stage.{Stage}
 use Rattle.commit_writes.specs.declared.stage.Stage.TheVariants.{Waiting, Logging, Opening, Sending, Settling, Deleting, Finished}
@@ -12,8 +10,6 @@ use Rattle.commit_writes.specs.Sound.{SendsRecord, IsThere, IsSoundAt, IsSound}
 use Rattle.commit_writes.specs.Writing.{Writing, head_ask, send_ask, delete_ask, ask_at, writing_ask}
 use Rattle.db_base.specs.declared.names.Lock.TheVariants as lock
 use Rattle.cloud_facts.specs.Homes.Homes.{Home, Part}
-use Rattle.log_codec.specs.declared.record.AtomicRec.{AtomicRec}
-use Rattle.cloud_facts.specs.Book.Tally.{Store}
 
 -- a put names the home's lease, which guards the head; the lease stays as it is
 module _ (who : Caller) (s t : CloudState) (w : Writing) (reply : Answer) where

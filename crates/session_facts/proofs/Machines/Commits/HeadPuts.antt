@@ -1,21 +1,16 @@
 -- The puts of heads that a commit has in hand, and the leases that it names.
 use Rattle.std.proofs.Common.{◌≡◌, inl, inr, ℕ, Bool, true, false, List, [], Option, Some, None, refl, sym, ap, subst, ◌∙◌}
 use Rattle.std.specs.Prelude.{slice_get}
-use Rattle.cloud_trait.specs.Ask.{Ask, PutHeld}
-use Rattle.cloud_trait.specs.Claim.{Claim}
+use Rattle.cloud_facts.specs.Words.{ObjName, AtomicRec, Head, Claim, Ask, PutHeld, Store}
 use Rattle.session_facts.specs.Machines.Commits.Knows.{KnowsCommitAt, KnowsCommit}
 use Rattle.session_facts.specs.Machines.Commits.HeadPuts.{PutsHead}
 use Rattle.commit_writes.specs.declared.stage.Stage.{Stage}
 use Rattle.commit_writes.specs.declared.stage.Stage.TheVariants.{Waiting, Logging, Opening, Sending, Settling, Deleting, Finished}
 use Rattle.commit_writes.specs.Sound.{SendsRecord, IsThere, IsSoundAt, IsSound}
 use Rattle.commit_writes.specs.Writing.{Writing, send_ask, delete_ask, ask_at, writing_ask, opens_at}
-use Rattle.db_base.specs.declared.names.ObjName.{ObjName}
 use Rattle.db_base.specs.declared.names.ObjName.TheVariants as object
 use Rattle.head_codec.specs.Spelling.{head_of}
-use Rattle.head_codec.specs.declared.head.Head.{Head}
 use Rattle.cloud_facts.specs.Homes.Homes.{Part}
-use Rattle.log_codec.specs.declared.record.AtomicRec.{AtomicRec}
-use Rattle.cloud_facts.specs.Book.Tally.{Store}
 use Rattle.std.proofs.lemmas.Bool.{true≢false}
 
 -- ---- what an ask puts

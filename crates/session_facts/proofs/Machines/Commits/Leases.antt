@@ -1,14 +1,11 @@
 -- A commit never changes its home's lease.
 use Rattle.std.proofs.Common.{◌≡◌, ℕ, Bool, true, false, cond, List, refl}
-use Rattle.cloud_trait.specs.declared.answer.Answer.{Answer}
-use Rattle.cloud_trait.specs.Claim.{Claim}
-use Rattle.cloud_trait.specs.Machine.{Next, Goes, Ends, Stops}
+use Rattle.cloud_facts.specs.Words.{CommitAnswer, Answer, Claim, Next, Goes, Ends, Stops}
 use Rattle.commit_writes.specs.Writing.{Writing, routed_of, passes, not_committed, begun, routing, writing_next}
 use Rattle.commit_writes.proofs.Outcomes as written
 use Rattle.commit_writes.proofs.Outcomes.{Logs, Comes as Wrote, begins, comes as wrote_by}
 use Rattle.db_base.specs.declared.trouble.Counter.TheVariants as counter
 use Rattle.db_base.specs.declared.trouble.Trouble.TheVariants as trouble
-use Rattle.db_base.specs.declared.trouble.CommitAnswer.{CommitAnswer}
 
 -- the home's lease is this one where a step leads
 abbrev pub LeaseStays : Claim → Next Writing CommitAnswer → Type 0

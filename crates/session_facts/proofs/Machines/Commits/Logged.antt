@@ -1,24 +1,20 @@
 -- What a send to the ATOMIC queue, and a deletion there, rest on.
 use Rattle.std.proofs.Common.{◌≡◌, ◌≤◌, ◌⊎◌, inl, inr, ℕ, true, false, take, Some, refl, sym, ap, subst, ◌∙◌, arith}
 use Rattle.std.specs.Prelude.{slice_get}
-use Rattle.cloud_trait.specs.Caller.{Caller}
+use Rattle.cloud_facts.specs.Words.{IsClient, AtomicRec, Head, Caller, Store, IsIn}
 use Rattle.session_facts.specs.Machines.Commits.Knows.{attempt_of, IsHomeOf, LogsNext, Deletes}
 use Rattle.session_facts.proofs.Machines.Commits.Records.{in_take, record_of, one_record}
 use Rattle.commit_writes.specs.Writing.{Writing}
-use Rattle.db_base.specs.Ids.{IsClient}
-use Rattle.head_codec.specs.declared.head.Head.{Head}
 use Rattle.head_codec.specs.declared.head.Phase.{Phase}
 use Rattle.head_codec.specs.declared.head.Phase.TheVariants.{Settled, Open}
 use Rattle.cloud_facts.specs.Homes.Homes.{Home, Part, Parts, HomeHolds, HomesHold, IsSpared}
 use Rattle.cloud_facts.proofs.Homes.HomeLemmas.{spared_own}
 use Rattle.cloud_facts.specs.Landings.Landing.{sent_by}
 use Rattle.log_codec.specs.Atomic.{atomic_of}
-use Rattle.log_codec.specs.declared.record.AtomicRec.{AtomicRec}
 use Rattle.cloud_facts.specs.Book.Growth.{PhaseRises, IsLater}
 use Rattle.cloud_facts.specs.Book.Messages.{IsLogMessage}
 use Rattle.cloud_facts.specs.Book.Premises.{Logs, MarksLog}
-use Rattle.cloud_facts.specs.Book.Records.{IsIn, is_open}
-use Rattle.cloud_facts.specs.Book.Tally.{Store}
+use Rattle.cloud_facts.specs.Book.Records.{is_open}
 
 -- ---- a send
 

@@ -8,21 +8,14 @@ use Rattle.std.proofs.lemmas.List.{length-append}
 use Rattle.std.proofs.lemmas.List.Sums.{count_by-le-length}
 use Rattle.cloud_facts.proofs.Decoding.Newest.{IsLast, last_cases, last_map, has_nth, never_gone}
 use Rattle.cloud_facts.proofs.Decoding.Reading.{head_reads}
-use Rattle.cloud_facts.specs.Book.Book.{Book}
+use Rattle.cloud_facts.specs.Words.{Entry, AtomicRec, Head, Version, CloudState, Book, store_of, StandsUnder}
 use Rattle.cloud_facts.specs.Book.Telling.{head_in, last_or}
-use Rattle.cloud_facts.specs.Calls.Standing.{StandsUnder}
-use Rattle.cloud_facts.specs.Tellings.Told.{store_of}
-use Rattle.cloud_trait.specs.State.{CloudState}
-use Rattle.cloud_trait.specs.declared.state.Version.{Version}
 use Rattle.commit_writes.specs.Writing.{passes, routed_of}
 use Rattle.db_base.specs.declared.names.ObjName.TheVariants as object
 use Rattle.head_codec.specs.Head.{empty_head}
 use Rattle.head_codec.specs.Spelling.{head_of}
-use Rattle.head_codec.specs.declared.head.Head.{Head}
 use Rattle.head_codec.specs.declared.lists.QueueCount.{QueueCount}
-use Rattle.log_codec.specs.declared.record.AtomicRec.{AtomicRec}
 use Rattle.recover_run.specs.declared.home.Home.{Home as Owner}
-use Rattle.report_types.specs.declared.entry.Entry.{Entry}
 use Rattle.route_plan.specs.Queue.{number_of_queue, queue_of}
 use Rattle.route_plan.specs.Route.{goes_to, next_number, record_behind, routed_behind}
 use Rattle.session_facts.specs.Machines.Openings.Client.{AreCounted}

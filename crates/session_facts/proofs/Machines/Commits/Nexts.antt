@@ -4,25 +4,19 @@ use Rattle.std.specs.Prelude.{slice_get}
 use Rattle.cloud_facts.specs.Calls.Acting.{IsPruned}
 use Rattle.session_facts.specs.Machines.Openings.Client.{AreOfTrees, AreOfRecords, AreCounted, KnowsClient}
 use Rattle.cloud_facts.proofs.Calls.OthersLemmas.{pruned_itself}
-use Rattle.cloud_trait.specs.Claim.{Lasts}
-use Rattle.cloud_trait.specs.Machine.{Next, Goes, Ends, Stops}
+use Rattle.cloud_facts.specs.Words.{IsClient, Trouble, CommitAnswer, AtomicRec, Head, Lasts, Next, Goes, Ends, Stops, Store, at}
 use Rattle.session_facts.specs.Machines.Commits.Knows.{MayCommit, Attempt, attempt_of, AreMessagesOf, Routes, HasSent, HasOpened, HasCommitted, AreSentOn, Deletes, IsHomeOf, KnowsCommit, KnowsNext}
 use Rattle.session_facts.proofs.Machines.Commits.Records.{take_all}
 use Rattle.commit_writes.specs.Writing.{Writing, before_of, restored, log_or_open, log_at, send_or_settle, send_at, delete_or_end, delete_at, not_opened, logged_by, opened_by, sent_by, settled_by, deleted_by}
-use Rattle.db_base.specs.Ids.{IsClient}
 use Rattle.db_base.specs.declared.names.Lock.TheVariants as lock
-use Rattle.db_base.specs.declared.trouble.CommitAnswer.{CommitAnswer}
 use Rattle.db_base.specs.declared.trouble.CommitAnswer.TheVariants.{Committed, NotCommitted, InDoubt, CommittedOpen}
-use Rattle.db_base.specs.declared.trouble.Trouble.{Trouble}
 use Rattle.db_base.specs.declared.trouble.Trouble.TheVariants as trouble
-use Rattle.head_codec.specs.declared.head.Head.{Head}
 use Rattle.head_codec.specs.declared.head.Phase.TheVariants as phase
 use Rattle.cloud_facts.specs.Homes.Homes.{Home, Part, Away, Parts, HomesHold}
 use Rattle.cloud_facts.proofs.Homes.HomeLemmas.{away_keeps, part_again}
-use Rattle.log_codec.specs.declared.record.AtomicRec.{AtomicRec}
 use Rattle.route_plan.specs.Heads.{opened_head}
 use Rattle.route_plan.proofs.Places.{past_none}
-use Rattle.cloud_facts.specs.Book.Tally.{Tally, Store, at}
+use Rattle.cloud_facts.specs.Book.Tally.{Tally}
 use Rattle.txn_buffer.specs.Noted.{Noted}
 
 abbrev pub WriteStep : Type 0

@@ -5,12 +5,10 @@ use Rattle.session_facts.specs.Machines.Commits.Knows.{MayCommit, AreLeavesFor}
 use Rattle.session_facts.proofs.Machines.Commits.Distinct.{distinct_places}
 use Rattle.session_facts.proofs.Machines.Commits.Routes.{records, count_is, record_at, sticky, goes}
 use Rattle.db_base.specs.Change.{key_of}
-use Rattle.db_base.specs.Ids.{IsClient}
-use Rattle.head_codec.specs.declared.head.Head.{Head}
+use Rattle.cloud_facts.specs.Words.{IsClient, AtomicRec, Head, Store, IsIn, StandsAt}
 use Rattle.head_codec.specs.declared.head.Phase.TheVariants.{Settled}
 use Rattle.head_codec.specs.declared.lists.Pending.{Pending}
 use Rattle.history.specs.Audited.{committed_entry}
-use Rattle.log_codec.specs.declared.record.AtomicRec.{AtomicRec}
 use Rattle.cloud_facts.specs.Numbers.Numbers.{Numbers}
 use Rattle.cloud_facts.specs.Pendings.Pending.{HeadPends}
 use Rattle.route_plan.specs.Heads.{opened_head}
@@ -19,8 +17,7 @@ use Rattle.route_plan.specs.Route.{goes_to, record_behind, routed_behind}
 use Rattle.route_plan.proofs.CommitLaws.{number_of_queue-opened_head}
 use Rattle.cloud_facts.specs.Book.Messages.{IsLogMessage, WaitsLogged}
 use Rattle.cloud_facts.specs.Book.Premises.{IsRecordAt, IsAppliedEntry, Opens}
-use Rattle.cloud_facts.specs.Book.Records.{StandsAt, IsIn, key_in, entry_of}
-use Rattle.cloud_facts.specs.Book.Tally.{Store}
+use Rattle.cloud_facts.specs.Book.Records.{key_in, entry_of}
 use Rattle.txn_buffer.specs.Noted.{Noted}
 
 -- ---- entries

@@ -3,24 +3,19 @@ use Rattle.std.proofs.Common.{◌≡◌, ◌≤◌, ◌<◌, ◌⊎◌, inl, inr
 use Rattle.cloud_facts.specs.Calls.Others.{Passes, Others, IsOfPart, NoneJoins}
 use Rattle.cloud_facts.specs.Calls.Acting.{HasLeaseOf}
 use Rattle.cloud_facts.proofs.Calls.Copies.{copied_stays, log_stays}
-use Rattle.cloud_trait.specs.Claim.{Claim, Lasts}
+use Rattle.cloud_facts.specs.Words.{IsClient, AtomicRec, Head, Claim, Lasts, Store, IsIn}
 use Rattle.cloud_facts.proofs.Calls.OthersLemmas.{pruned_stays}
 use Rattle.session_facts.specs.Machines.Commits.Knows.{IsLeafFor, AreLeavesFor, Attempt, attempt_of, IsOfAttempt, AreMessagesOf, Routes, HasOpened, HasCommitted, AreSentOn, KnowsCommitAt, IsHomeOf, KnowsCommit}
 use Rattle.session_facts.proofs.Machines.Commits.Records.{messages_stay}
 use Rattle.commit_writes.specs.declared.stage.Stage.{Stage}
 use Rattle.commit_writes.specs.declared.stage.Stage.TheVariants.{Waiting, Logging, Opening, Sending, Settling, Deleting, Finished}
 use Rattle.commit_writes.specs.Writing.{Writing}
-use Rattle.db_base.specs.Ids.{IsClient}
 use Rattle.db_base.specs.declared.change.Change.{Change}
 use Rattle.db_base.specs.declared.names.Lock.TheVariants as lock
-use Rattle.head_codec.specs.declared.head.Head.{Head}
 use Rattle.head_codec.specs.declared.head.Phase.{Phase}
 use Rattle.head_codec.specs.declared.head.Phase.TheVariants.{Settled, Open}
 use Rattle.cloud_facts.specs.Homes.Homes.{Home, Part}
-use Rattle.log_codec.specs.declared.record.AtomicRec.{AtomicRec}
 use Rattle.cloud_facts.specs.Book.Growth.{PhaseRises, IsLater, Grows}
-use Rattle.cloud_facts.specs.Book.Records.{IsIn}
-use Rattle.cloud_facts.specs.Book.Tally.{Store}
 use Rattle.txn_buffer.specs.Noted.{Noted}
 use Rattle.session_facts.proofs.Machines.Openings.Counted.{counted_stay}
 use Rattle.session_facts.proofs.Machines.Openings.Entries.{records_stay}

@@ -2,10 +2,7 @@
 use Rattle.std.proofs.Common.{◌≡◌, ℕ, List, [], ◌∷◌, Option, Some, None, refl}
 use Rattle.std.specs.Prelude.{slice_get}
 use Rattle.cloud_facts.specs.Calls.Acting.{Setting, Outcome}
-use Rattle.cloud_facts.specs.Calls.Call.{IsCall}
-use Rattle.cloud_trait.specs.declared.answer.Answer.{Answer}
-use Rattle.cloud_trait.specs.Caller.{Caller}
-use Rattle.cloud_trait.specs.State.{CloudState}
+use Rattle.cloud_facts.specs.Words.{Entry, AtomicRec, Answer, CloudState, Caller, Book, store_of, IsCall}
 use Rattle.session_facts.specs.Machines.Commits.Knows.{LogsNext, SendsNext, Deletes, KnowsCommitAt, KnowsCommit, KnowsNext}
 use Rattle.session_facts.specs.Machines.Commits.Audited.{noted_at, commit_note}
 use Rattle.session_facts.proofs.Machines.Commits.Deleted.{deleting_outcome}
@@ -20,10 +17,6 @@ use Rattle.commit_writes.specs.declared.stage.Stage.TheVariants.{Waiting, Loggin
 use Rattle.commit_writes.specs.Sound.{LogsRecord, SendsRecord, IsThere, IsSoundAt, IsSound}
 use Rattle.commit_writes.specs.Writing.{Writing, send_ask, delete_ask, ask_at, writing_ask, next_at, writing_next}
 use Rattle.cloud_facts.specs.Homes.Homes.{Home, Part, Parts}
-use Rattle.log_codec.specs.declared.record.AtomicRec.{AtomicRec}
-use Rattle.report_types.specs.declared.entry.Entry.{Entry}
-use Rattle.cloud_facts.specs.Book.Book.{Book}
-use Rattle.cloud_facts.specs.Tellings.Told.{store_of}
 
 module _ (who : Caller) (book : Book) (order : List Entry) (s t : CloudState) (parts : Parts) (w : Writing) (reply : Answer) (part : Part) (g : Home)
     (ready : Ready who book order s t.now parts w part g) where

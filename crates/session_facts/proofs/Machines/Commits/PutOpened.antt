@@ -2,17 +2,12 @@
 use Rattle.std.proofs.Common.{◌≡◌, ◌⊎◌, inl, inr, ℕ, List, [], ◌∷◌, ◌++◌, map, Some, None, Ok, refl, sym, ap, subst, ◌∙◌, arith, append-nil}
 use Rattle.std.proofs.lemmas.List.{map-append}
 use Rattle.cloud_facts.specs.Calls.Acting.{IsPruned}
-use Rattle.cloud_facts.specs.Calls.Call.{IsCall}
+use Rattle.cloud_facts.specs.Words.{Entry, AtomicRec, Head, Answer, CloudState, called, Caller, Lasts, done_of, Book, Store, at, IsIn, store_of, IsCall}
 use Rattle.cloud_facts.specs.Calls.Looks.{audit_of}
 use Rattle.cloud_facts.proofs.Calls.Calls.{put_cases, put_lasts, put_late}
 use Rattle.cloud_facts.proofs.Calls.Outcomes.{stays, put_landed}
-use Rattle.cloud_trait.specs.declared.answer.Answer.{Answer}
 use Rattle.cloud_trait.specs.Ask.{Lands}
-use Rattle.cloud_trait.specs.Caller.{Caller}
-use Rattle.cloud_trait.specs.Claim.{Lasts}
 use Rattle.cloud_trait.specs.Growth.{BeginsWith}
-use Rattle.cloud_trait.specs.State.{CloudState, called}
-use Rattle.cloud_trait.specs.Views.{done_of}
 use Rattle.session_facts.specs.Machines.Commits.Knows.{attempt_of, IsOfAttempt, AreMessagesOf, OpensBehind, HasOpened, HasCommitted, KnowsNext}
 use Rattle.session_facts.specs.Machines.Commits.Audited.{noted_at}
 use Rattle.session_facts.proofs.Machines.Commits.Records.{record_of, record_for, messages_stay}
@@ -24,25 +19,19 @@ use Rattle.commit_writes.specs.declared.stage.Stage.TheVariants.{Opening}
 use Rattle.commit_writes.specs.Writing.{Writing, head_ask, restored, next_at}
 use Rattle.db_base.specs.declared.names.ObjName.TheVariants as object
 use Rattle.head_codec.specs.Spelling.{head_of}
-use Rattle.head_codec.specs.declared.head.Head.{Head}
 use Rattle.history.specs.Audited.{committed_entry}
 use Rattle.cloud_facts.specs.Homes.Homes.{Home, Part, Parts, HomesHold}
 use Rattle.cloud_facts.proofs.Homes.HomeLemmas.{commits_keeps, keeps_part}
 use Rattle.cloud_facts.specs.Landings.Landing as landing
 use Rattle.cloud_facts.proofs.Landings.LandingLemmas.{opens_later}
-use Rattle.log_codec.specs.declared.record.AtomicRec.{AtomicRec}
-use Rattle.report_types.specs.declared.entry.Entry.{Entry}
 use Rattle.route_plan.specs.Heads.{opened_head}
-use Rattle.cloud_facts.specs.Book.Book.{Book}
 use Rattle.cloud_facts.specs.Book.Effects.{after_head}
 use Rattle.cloud_facts.specs.Book.Messages.{IsLogMessage, WaitsLogged}
 use Rattle.cloud_facts.specs.Book.Premises.{Opens}
-use Rattle.cloud_facts.specs.Book.Records.{IsIn, entry_of, entries_of}
-use Rattle.cloud_facts.specs.Book.Tally.{Store, at}
+use Rattle.cloud_facts.specs.Book.Records.{entry_of, entries_of}
 use Rattle.cloud_facts.proofs.Book.GrowthLemmas.{head_grows}
 use Rattle.cloud_facts.proofs.Book.Names.{at_same}
 use Rattle.cloud_facts.proofs.Book.Places.{in_either, in_behind}
-use Rattle.cloud_facts.specs.Tellings.Told.{store_of}
 use Rattle.session_facts.proofs.Machines.Openings.Counted.{counted_in, log_in}
 use Rattle.session_facts.proofs.Machines.Openings.Entries.{records_in}
 

@@ -1,16 +1,11 @@
 -- What the put that settles leaves.
 use Rattle.std.proofs.Common.{◌≡◌, ◌⊎◌, inl, inr, ℕ, List, [], ◌∷◌, Some, None, Ok, refl, sym, ap, subst, ◌∙◌}
 use Rattle.std.proofs.lemmas.List.{append-nil}
-use Rattle.cloud_facts.specs.Calls.Call.{IsCall}
+use Rattle.cloud_facts.specs.Words.{Entry, AtomicRec, Head, Answer, CloudState, called, Caller, Lasts, done_of, Book, Store, at, store_of, IsCall}
 use Rattle.cloud_facts.specs.Calls.Looks.{audit_of}
 use Rattle.cloud_facts.proofs.Calls.Calls.{put_cases, put_lasts}
 use Rattle.cloud_facts.proofs.Calls.Outcomes.{stays, put_landed}
-use Rattle.cloud_trait.specs.declared.answer.Answer.{Answer}
 use Rattle.cloud_trait.specs.Ask.{Lands}
-use Rattle.cloud_trait.specs.Caller.{Caller}
-use Rattle.cloud_trait.specs.Claim.{Lasts}
-use Rattle.cloud_trait.specs.State.{CloudState, called}
-use Rattle.cloud_trait.specs.Views.{done_of}
 use Rattle.session_facts.proofs.Machines.Openings.Counted.{counted_in, settled_counted}
 use Rattle.session_facts.proofs.Machines.Openings.Entries.{settled_trees, settled_records, records_in}
 use Rattle.session_facts.specs.Machines.Commits.Knows.{attempt_of, SettlesOpened, Deletes, KnowsNext}
@@ -24,21 +19,15 @@ use Rattle.commit_writes.specs.declared.stage.Stage.TheVariants.{Settling}
 use Rattle.commit_writes.specs.Writing.{Writing, head_ask, next_at}
 use Rattle.db_base.specs.declared.names.ObjName.TheVariants as object
 use Rattle.head_codec.specs.Spelling.{head_of}
-use Rattle.head_codec.specs.declared.head.Head.{Head}
 use Rattle.cloud_facts.specs.Homes.Homes.{Home, Part, AtHome, Parts, HomesHold}
 use Rattle.cloud_facts.proofs.Homes.HomeLemmas.{commits_keeps, rests_keeps}
 use Rattle.cloud_facts.specs.Landings.Landing as landing
 use Rattle.cloud_facts.proofs.Landings.LandingLemmas.{settles_later}
-use Rattle.log_codec.specs.declared.record.AtomicRec.{AtomicRec}
-use Rattle.report_types.specs.declared.entry.Entry.{Entry}
-use Rattle.cloud_facts.specs.Book.Book.{Book}
 use Rattle.cloud_facts.specs.Book.Effects.{after_head}
 use Rattle.cloud_facts.specs.Book.Premises.{Settles}
-use Rattle.cloud_facts.specs.Book.Tally.{Store, at}
 use Rattle.cloud_facts.proofs.Book.GrowthLemmas.{head_grows}
 use Rattle.cloud_facts.proofs.Book.Names.{at_same}
 use Rattle.cloud_facts.proofs.Book.Places.{in_front}
-use Rattle.cloud_facts.specs.Tellings.Told.{store_of}
 
 module _ (who : Caller) (book : Book) (order : List Entry) (s t : CloudState) (parts : Parts) (w : Writing) (reply : Answer) (part : Part) (g : Home)
     (ready : Ready who book order s t.now parts w part g) (k : SettlesOpened (store_of book order s) t.now w) (sound : head_of w.out ≡ Some w.home.head)

@@ -1,10 +1,7 @@
 -- What stands before a call of a commit, and what that says of its home.
 use Rattle.std.proofs.Common.{◌≡◌, ℕ, List, [], ◌∷◌, refl, sym, subst, ◌∙◌}
 use Rattle.cloud_facts.specs.Calls.Acting.{Setting, Outcome}
-use Rattle.cloud_trait.specs.declared.answer.Answer.{Answer}
-use Rattle.cloud_trait.specs.Caller.{Caller}
-use Rattle.cloud_trait.specs.Claim.{Claim, Lasts}
-use Rattle.cloud_trait.specs.State.{CloudState}
+use Rattle.cloud_facts.specs.Words.{Entry, Answer, CloudState, Caller, Claim, Lasts, Book, at, store_of}
 use Rattle.session_facts.specs.Machines.Commits.Knows.{attempt_of, KnowsNext}
 use Rattle.session_facts.specs.Machines.Commits.Audited.{noted_at}
 use Rattle.session_facts.proofs.Machines.Commits.Nexts.{Stands}
@@ -12,10 +9,6 @@ use Rattle.commit_writes.specs.declared.stage.Stage.{Stage}
 use Rattle.commit_writes.specs.Writing.{Writing, ask_at, next_at}
 use Rattle.cloud_facts.specs.Homes.Homes.{Home, Part, AtHome, Parts, IsAlone, HomeHolds, PartHolds, HomesHold}
 use Rattle.cloud_facts.proofs.Homes.HomeLemmas.{keeps_part}
-use Rattle.report_types.specs.declared.entry.Entry.{Entry}
-use Rattle.cloud_facts.specs.Book.Book.{Book}
-use Rattle.cloud_facts.specs.Book.Tally.{at}
-use Rattle.cloud_facts.specs.Tellings.Told.{store_of}
 
 -- the part of the session is at home for the transaction
 pub record Ready (who : Caller) (book : Book) (order : List Entry) (s : CloudState) (now : ℕ) (parts : Parts) (w : Writing) (part : Part) (g : Home) : Type 0 where

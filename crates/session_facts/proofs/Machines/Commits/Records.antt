@@ -4,20 +4,16 @@ use Rattle.std.specs.Prelude.{slice_get}
 use Rattle.cloud_facts.proofs.Calls.Copies.{message_stays}
 use Rattle.cloud_trait.specs.Growth.{BeginsWith}
 use Rattle.cloud_trait.specs.Upto.{posts_of}
-use Rattle.cloud_trait.specs.declared.state.Posted.{Posted}
+use Rattle.cloud_facts.specs.Words.{AtomicRec, Head, Posted, Store, StandsAt}
 use Rattle.session_facts.specs.Machines.Commits.Knows.{Attempt, IsOfAttempt, AreMessagesOf, Routes}
 use Rattle.session_facts.proofs.Machines.Commits.Routes.{record_at}
 use Rattle.log_codec.specs.Atomic.{atomic_of}
-use Rattle.log_codec.specs.declared.record.AtomicRec.{AtomicRec}
-use Rattle.head_codec.specs.declared.head.Head.{Head}
 use Rattle.cloud_facts.specs.Book.Growth.{Grows}
 use Rattle.cloud_facts.specs.Book.Messages.{IsLogMessage}
-use Rattle.cloud_facts.specs.Book.Records.{StandsAt}
 use Rattle.cloud_facts.proofs.Book.Places.{get_within}
 use Rattle.cloud_facts.proofs.Calls.Searching.{stands_below}
 use Rattle.route_plan.specs.Route.{record_behind, routed}
 use Rattle.route_plan.proofs.CommitLaws.{routed_behind-at}
-use Rattle.cloud_facts.specs.Book.Tally.{Store}
 use Rattle.txn_buffer.specs.Noted.{Noted}
 
 -- ---- the first records

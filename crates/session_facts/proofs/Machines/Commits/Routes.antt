@@ -8,19 +8,15 @@ use Rattle.std.specs.Str.{bytes_eq}
 use Rattle.byte_format.specs.Order.{bytes_below}
 use Rattle.db_base.specs.Change.{goes_to_leaf, key_of}
 use Rattle.db_base.specs.declared.change.Change.{Change}
-use Rattle.head_codec.specs.declared.head.Head.{Head}
+use Rattle.cloud_facts.specs.Words.{AtomicRec, Head, Book, Store, IsIn, StandsAt}
 use Rattle.head_codec.specs.declared.lists.Pending.{Pending}
-use Rattle.log_codec.specs.declared.record.AtomicRec.{AtomicRec}
 use Rattle.cloud_facts.specs.Numbers.Numbers.{Numbers}
 use Rattle.cloud_facts.specs.Pendings.Pending.{HeadPends}
 use Rattle.route_plan.specs.Queue.{is_pending_of, last_pending, first_queue, queue_of}
 use Rattle.route_plan.specs.Record.{pending_of}
 use Rattle.route_plan.specs.Route.{record_behind, routed_behind, routed}
 use Rattle.route_plan.proofs.CommitLaws.{routed_behind-at}
-use Rattle.cloud_facts.specs.Book.Book.{Book}
 use Rattle.cloud_facts.specs.Book.Premises.{IsLeafAtMost, IsRouted}
-use Rattle.cloud_facts.specs.Book.Records.{StandsAt, IsIn}
-use Rattle.cloud_facts.specs.Book.Tally.{Store}
 use Rattle.txn_buffer.specs.Noted.{Noted}
 use Rattle.cloud_facts.specs.Calls.Acting.{IsPruned}
 use Rattle.cloud_facts.proofs.Calls.Searching.{stands_below, found, not_found, in_reverse, from_reverse}

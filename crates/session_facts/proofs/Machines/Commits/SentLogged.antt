@@ -2,16 +2,11 @@
 use Rattle.std.proofs.Common.{◌≡◌, ◌+◌, ◌⊎◌, inl, inr, ℕ, suc, List, [], ◌∷◌, ◌++◌, length, take, Some, Ok, refl, sym, ap, subst, ◌∙◌, arith}
 use Rattle.std.specs.Prelude.{slice_get}
 use Rattle.session_facts.specs.Machines.Openings.Client.{KnowsClient}
-use Rattle.cloud_facts.specs.Calls.Call.{IsCall}
+use Rattle.cloud_facts.specs.Words.{QueueName, Entry, AtomicRec, Answer, Posted, CloudState, called, Caller, Send, sent_of, Book, Store, at, IsIn, store_of, IsCall}
 use Rattle.cloud_facts.proofs.Calls.Calls.{send_cases}
 use Rattle.cloud_facts.proofs.Calls.Outcomes.{stays, other_landed}
-use Rattle.cloud_trait.specs.declared.answer.Answer.{Answer}
 use Rattle.cloud_trait.specs.declared.answer.Answer.TheVariants.{Sent}
-use Rattle.cloud_trait.specs.declared.state.Posted.{Posted}
-use Rattle.cloud_trait.specs.Ask.{Send, Lands}
-use Rattle.cloud_trait.specs.Caller.{Caller}
-use Rattle.cloud_trait.specs.State.{CloudState, called}
-use Rattle.cloud_trait.specs.Views.{sent_of}
+use Rattle.cloud_trait.specs.Ask.{Lands}
 use Rattle.session_facts.specs.Machines.Commits.Knows.{attempt_of, IsOfAttempt, IsMessageOf, AreMessagesOf, Routes, HasSent, LogsNext, KnowsNext}
 use Rattle.session_facts.specs.Machines.Commits.Audited.{noted_at}
 use Rattle.session_facts.proofs.Machines.Commits.Records.{take_next, record_of, messages_stay}
@@ -21,25 +16,18 @@ use Rattle.session_facts.proofs.Machines.Commits.Nexts.{WriteStep, Stands, part_
 use Rattle.session_facts.proofs.Machines.Commits.Ready.{Ready, OutcomeAt, at_home, holds, homes}
 use Rattle.commit_writes.specs.declared.stage.Stage.TheVariants.{Logging}
 use Rattle.commit_writes.specs.Writing.{Writing, log_ask, next_at}
-use Rattle.db_base.specs.declared.names.QueueName.{QueueName}
 use Rattle.db_base.specs.declared.names.QueueName.TheVariants.{Atomic}
 use Rattle.cloud_facts.specs.Homes.Homes.{Home, Part, AtHome, Parts, HomesHold}
 use Rattle.cloud_facts.proofs.Homes.HomeLemmas.{with_sent, logged_keeps}
 use Rattle.cloud_facts.specs.Landings.Landing.{sent_by}
 use Rattle.cloud_facts.specs.Landings.Landing as landing
 use Rattle.log_codec.specs.Atomic.{atomic_of}
-use Rattle.log_codec.specs.declared.record.AtomicRec.{AtomicRec}
-use Rattle.report_types.specs.declared.entry.Entry.{Entry}
-use Rattle.cloud_facts.specs.Book.Book.{Book}
 use Rattle.cloud_facts.specs.Book.Effects.{after_logged}
 use Rattle.cloud_facts.specs.Book.Messages.{IsLogMessage}
 use Rattle.cloud_facts.specs.Book.Premises.{Logs}
-use Rattle.cloud_facts.specs.Book.Records.{IsIn}
-use Rattle.cloud_facts.specs.Book.Tally.{Store, at}
 use Rattle.cloud_facts.proofs.Book.GrowthLemmas.{logged_grows}
 use Rattle.cloud_facts.proofs.Book.Names.{at_same}
 use Rattle.cloud_facts.proofs.Book.Places.{get_behind, get_single, in_either}
-use Rattle.cloud_facts.specs.Tellings.Told.{store_of}
 
 -- the number that a send gave is that of the place behind all messages
 pub sent_id : (who : Caller) (queue : QueueName) (bytes : List ℕ) (answer : Answer) (s t : CloudState) → IsCall who (Send queue bytes) answer s t → (id : ℕ) → sent_of answer ≡ Ok id

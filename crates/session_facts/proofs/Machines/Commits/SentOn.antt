@@ -2,17 +2,13 @@
 use Rattle.std.proofs.Common.{◌≡◌, ◌≤◌, ◌<◌, ◌+◌, ◌⊎◌, inl, inr, ℕ, List, [], ◌∷◌, Some, Ok, refl, sym, ap, subst, ◌∙◌, arith}
 use Rattle.std.specs.Prelude.{slice_get}
 use Rattle.std.proofs.lemmas.Bool.{cases_lt}
-use Rattle.cloud_facts.specs.Calls.Call.{IsCall}
+use Rattle.cloud_facts.specs.Words.{IsClient, Entry, AtomicRec, Head, Answer, CloudState, called, Caller, Ask, Send, sent_of, Book, Store, at, IsIn, store_of, IsCall}
 use Rattle.cloud_facts.specs.Calls.Acting.{Outcome}
 use Rattle.cloud_facts.specs.Calls.Others.{WasSentOn, Passes}
 use Rattle.cloud_facts.proofs.Calls.Calls.{send_cases}
 use Rattle.cloud_facts.proofs.Calls.Outcomes.{stays, other_landed}
 use Rattle.cloud_facts.proofs.Calls.Passing.{landing_passes}
-use Rattle.cloud_trait.specs.declared.answer.Answer.{Answer}
-use Rattle.cloud_trait.specs.Ask.{Ask, Send, Lands}
-use Rattle.cloud_trait.specs.Caller.{Caller}
-use Rattle.cloud_trait.specs.State.{CloudState, called}
-use Rattle.cloud_trait.specs.Views.{sent_of}
+use Rattle.cloud_trait.specs.Ask.{Lands}
 use Rattle.session_facts.specs.Machines.Commits.Knows.{attempt_of, IsOfAttempt, SendsNext, AreSentOn, KnowsNext}
 use Rattle.session_facts.specs.Machines.Commits.Audited.{noted_at}
 use Rattle.session_facts.proofs.Machines.Commits.Records.{messages_stay}
@@ -26,24 +22,17 @@ use Rattle.cloud_facts.specs.Copies.Copies.{IsSentOn, SendsInTurn}
 use Rattle.cloud_facts.proofs.Copies.Turns.{sends_in_turn}
 use Rattle.cloud_facts.proofs.Numbers.Ways.{way_epoch, way_txn}
 use Rattle.cloud_facts.specs.Homes.Homes.{Home, Part, Parts}
-use Rattle.db_base.specs.Ids.{IsClient}
-use Rattle.head_codec.specs.declared.head.Head.{Head}
 use Rattle.cloud_facts.proofs.Homes.HomeLemmas.{aside_keeps}
 use Rattle.cloud_facts.specs.Landings.Landing.{Landing, sent_by}
 use Rattle.cloud_facts.specs.Landings.Landing as landing
 use Rattle.cloud_facts.specs.Lefts.Left.{IsCopied}
 use Rattle.log_codec.specs.Pu.{pu_of}
-use Rattle.log_codec.specs.declared.record.AtomicRec.{AtomicRec}
-use Rattle.report_types.specs.declared.entry.Entry.{Entry}
 use Rattle.route_plan.specs.Queue.{queue_name}
 use Rattle.route_plan.specs.Record.{pu_record_of}
-use Rattle.cloud_facts.specs.Book.Book.{Book}
 use Rattle.cloud_facts.specs.Book.Effects.{after_posted}
-use Rattle.cloud_facts.specs.Book.Records.{IsIn, IsUnderWay}
-use Rattle.cloud_facts.specs.Book.Tally.{Store, at}
+use Rattle.cloud_facts.specs.Book.Records.{IsUnderWay}
 use Rattle.cloud_facts.specs.Book.Telling.{queue_of}
 use Rattle.cloud_facts.proofs.Book.GrowthLemmas.{posted_grows}
-use Rattle.cloud_facts.specs.Tellings.Told.{store_of}
 
 module _ (who : Caller) (book : Book) (order : List Entry) (s t : CloudState) (parts : Parts) (w : Writing) (reply : Answer) (part : Part) (g : Home)
     (ready : Ready who book order s t.now parts w part g) (a : SendsNext (store_of book order s) t.now w) (r : AtomicRec) (there : slice_get w.records w.place ≡ Some r)

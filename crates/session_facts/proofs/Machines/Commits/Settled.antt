@@ -4,27 +4,22 @@ use Rattle.std.specs.Prelude.{◌==◌, cond}
 use Rattle.std.proofs.lemmas.Bool.{and_from, eq-eqb, ne_eqb}
 use Rattle.cloud_facts.specs.Calls.Others.{WasSentOn}
 use Rattle.cloud_facts.specs.Copies.Copies.{SendsInTurn}
-use Rattle.cloud_trait.specs.Caller.{Caller}
-use Rattle.cloud_trait.specs.Claim.{Lasts}
-use Rattle.cloud_trait.specs.declared.state.Posted.{Posted}
+use Rattle.cloud_facts.specs.Words.{IsClient, AtomicRec, Head, Posted, Caller, Lasts, Store, IsIn}
 use Rattle.session_facts.specs.Machines.Commits.Knows.{attempt_of, IsOfAttempt, SettlesOpened}
 use Rattle.commit_writes.specs.Writing.{Writing}
-use Rattle.db_base.specs.Ids.{IsClient}
 use Rattle.db_base.specs.declared.names.QueueName.TheVariants.{TreePu, PagePu}
-use Rattle.head_codec.specs.declared.head.Head.{Head}
 use Rattle.head_codec.specs.declared.lists.Pending.{Pending}
 use Rattle.cloud_facts.specs.Landings.Landing.{sent_by}
 use Rattle.cloud_facts.specs.Lefts.Left.{IsCopied, IsWaiting}
 use Rattle.log_codec.specs.Pu.{pu_of}
-use Rattle.log_codec.specs.declared.record.AtomicRec.{AtomicRec}
 use Rattle.cloud_facts.proofs.Numbers.Ways.{is_way, open_way, way_epoch, way_txn}
 use Rattle.route_plan.specs.Queue.{number_of_queue, queue_name}
 use Rattle.route_plan.specs.Record.{pu_record_of, pending_of}
 use Rattle.cloud_facts.specs.Book.Effects.{after_posted}
 use Rattle.cloud_facts.specs.Book.Messages.{HasCopy, Waits, IsMessage}
 use Rattle.cloud_facts.specs.Book.Premises.{Settles, Posts}
-use Rattle.cloud_facts.specs.Book.Records.{IsIn, IsUnderWay, is_open}
-use Rattle.cloud_facts.specs.Book.Tally.{Store, at2}
+use Rattle.cloud_facts.specs.Book.Records.{IsUnderWay, is_open}
+use Rattle.cloud_facts.specs.Book.Tally.{at2}
 use Rattle.cloud_facts.specs.Book.Telling.{queue_of}
 use Rattle.cloud_facts.proofs.Book.Places.{get_behind, get_map, get_within, in_either, in_front, in_behind}
 use Rattle.cloud_facts.proofs.Lefts.MessageLemmas.{copy_of_waits}

@@ -1,11 +1,9 @@
 -- The writes of a commit go on with the same changes of the same client, or end for it.
 use Rattle.std.proofs.Common.{◌≡◌, ℕ, List, refl, ap, length}
 use Rattle.db_base.specs.declared.trouble.Trouble.TheVariants as trouble
-use Rattle.db_base.specs.declared.trouble.CommitAnswer.{CommitAnswer}
+use Rattle.cloud_facts.specs.Words.{CommitAnswer, Answer, Next, Goes, Ends, Stops}
 use Rattle.head_codec.specs.declared.head.Phase.TheVariants as phase
 use Rattle.txn_buffer.specs.Noted.{Noted}
-use Rattle.cloud_trait.specs.declared.answer.Answer.{Answer}
-use Rattle.cloud_trait.specs.Machine.{Next, Goes, Ends, Stops}
 use Rattle.commit_writes.specs.Writing.{Writing, writing_next}
 use Rattle.commit_writes.proofs.Outcomes as written
 use Rattle.commit_writes.proofs.Outcomes.{Logs, Comes as Wrote, comes as wrote_by}

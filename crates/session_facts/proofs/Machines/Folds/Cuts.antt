@@ -6,9 +6,8 @@ use Rattle.std.proofs.lemmas.List.{append-nil, nil_from_length}
 use Rattle.std.proofs.lemmas.List.Elements.{All-from_recursion}
 use Rattle.byte_format.specs.Format.{greatest}
 use Rattle.leaf_view.specs.Fits.{IsWellFormed, IsVersion}
-use Rattle.leaf_view.specs.Leaf.{Leaf}
+use Rattle.cloud_facts.specs.Words.{PuItem, Leaf, Store, IsIn}
 use Rattle.leaf_view.proofs.Split.{fits_leaf}
-use Rattle.log_codec.specs.declared.record.PuItem.{PuItem}
 use Rattle.log_codec.specs.Order.{IsItem, IsOrdered}
 use Rattle.log_codec.specs.Pu.{IsPuRecord}
 use Rattle.log_codec.proofs.PuLaws.{pu_of-some}
@@ -21,8 +20,6 @@ use Rattle.split_plan.specs.Part.{LeafPart, part_of_leaf, record_key}
 use Rattle.split_plan.specs.Plan.{IsLeafPart, put_of, on_pages, leaf_bytes, leaf_pieces}
 use Rattle.split_plan.specs.Sizes.{count_of, cuts_of}
 use Rattle.cloud_facts.specs.Book.Premises.{IsItemOf}
-use Rattle.cloud_facts.specs.Book.Records.{IsIn}
-use Rattle.cloud_facts.specs.Book.Tally.{Store}
 use Rattle.session_facts.specs.Machines.Trees.Placings.{IsPlacing}
 use Rattle.session_facts.proofs.Machines.Folds.Pieces.{put-formed, leaf_parts_fit}
 

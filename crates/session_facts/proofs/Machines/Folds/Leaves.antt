@@ -11,27 +11,19 @@ use Rattle.cloud_facts.proofs.Chains.Newest.{IsNewestOf, newest_is}
 use Rattle.cloud_facts.proofs.Chains.Pieces.{ascend_next}
 use Rattle.cloud_facts.specs.Meanings.Meets.{IsPassed}
 use Rattle.cloud_facts.proofs.Meanings.Steps.{passed_right, left_right, not_passed}
-use Rattle.cloud_facts.specs.Calls.Standing.{StandsUnder}
-use Rattle.cloud_trait.specs.State.{CloudState, newest}
+use Rattle.cloud_facts.specs.Words.{IsTree, Trouble, Entry, PuItem, Leaf, CloudState, newest, Book, Link, Store, Node, Leafy, Branch, IsIn, nodes_of, roots_of, store_of, StandsUnder}
 use Rattle.db_base.specs.Change.{key_of}
-use Rattle.db_base.specs.Ids.{IsTree}
 use Rattle.db_base.specs.declared.names.ObjName.TheVariants as object
-use Rattle.db_base.specs.declared.trouble.Trouble.{Trouble}
 use Rattle.cloud_facts.specs.Decoding.Kinds.{IsNode}
 use Rattle.cloud_facts.proofs.Decoding.Values.{newest_page_decodes}
 use Rattle.leaf_edit.specs.Lacked.{is_lacked, lacked}
-use Rattle.leaf_view.specs.Leaf.{Leaf, IsLeaf, leaf as leaf_format}
+use Rattle.leaf_view.specs.Leaf.{IsLeaf, leaf as leaf_format}
 use Rattle.leaf_view.specs.Lookup.{empty_leaf, holds, page_at, number_of as done_number}
-use Rattle.log_codec.specs.declared.record.PuItem.{PuItem}
-use Rattle.report_types.specs.declared.entry.Entry.{Entry}
 use Rattle.run_cursor.specs.Covered.{is_seen}
-use Rattle.cloud_facts.specs.Book.Book.{Book, Link}
-use Rattle.cloud_facts.specs.Book.Records.{IsIn}
-use Rattle.cloud_facts.specs.Book.Tally.{Node, Leafy, Branch, Store, low_of}
-use Rattle.cloud_facts.specs.Book.Telling.{last_or, leaf_in, nodes_of, roots_of, newest_leaf, newest_root}
+use Rattle.cloud_facts.specs.Book.Tally.{low_of}
+use Rattle.cloud_facts.specs.Book.Telling.{last_or, leaf_in, newest_leaf, newest_root}
 use Rattle.cloud_facts.proofs.Book.Places.{in_front, in_behind}
 use Rattle.cloud_facts.specs.Tellings.Taking.{IsLinked}
-use Rattle.cloud_facts.specs.Tellings.Told.{store_of}
 use Rattle.cloud_facts.proofs.Tellings.Finding.{found_before}
 use Rattle.tree_phases.proofs.Reading.{leaf_is}
 use Rattle.tree_phases.specs.Read.{leaf_or, leaf_read}

@@ -2,29 +2,16 @@
 use Rattle.std.proofs.Common.{◌≡◌, ◌⊎◌, inl, inr, ℕ, true, false, List, [], ◌∷◌, ◌++◌, Option, Some, Result, Ok, refl, sym, ap, subst, arith}
 use Rattle.byte_format.specs.Order.{bytes_below}
 use Rattle.cloud_facts.proofs.Chains.Pieces.{none_in, in_cases, in_both}
-use Rattle.cloud_facts.specs.Calls.Standing.{StandsUnder}
-use Rattle.cloud_trait.specs.declared.answer.Answer.{Answer}
-use Rattle.cloud_trait.specs.Claim.{Claim}
-use Rattle.cloud_trait.specs.Machine.{Ends}
-use Rattle.cloud_trait.specs.State.{CloudState, newest}
-use Rattle.cloud_trait.specs.Views.{got_of}
+use Rattle.cloud_facts.specs.Words.{Trouble, Entry, PuItem, Leaf, Answer, CloudState, newest, Claim, Ends, got_of, Book, Store, IsIn, nodes_of, store_of, StandsUnder}
 use Rattle.db_base.specs.declared.names.ObjName.TheVariants as object
-use Rattle.db_base.specs.declared.trouble.Trouble.{Trouble}
 use Rattle.leaf_edit.specs.Lacked.{lacked}
 use Rattle.tree_phases.specs.declared.folding.Folding.{Folding}
 use Rattle.tree_phases.specs.declared.folding.Left.TheVariants.{Handled}
 use Rattle.tree_phases.specs.declared.page_plan.PagePlan.{PagePlan}
 use Rattle.tree_phases.specs.Folding.{FoldingStep, turned, handled_to, put_planned, folding_next}
 use Rattle.tree_phases.specs.Plan.{leaf_plan}
-use Rattle.leaf_view.specs.Leaf.{Leaf}
 use Rattle.leaf_view.specs.Lookup.{page_at}
-use Rattle.log_codec.specs.declared.record.PuItem.{PuItem}
-use Rattle.report_types.specs.declared.entry.Entry.{Entry}
-use Rattle.cloud_facts.specs.Book.Book.{Book}
-use Rattle.cloud_facts.specs.Book.Records.{IsIn}
-use Rattle.cloud_facts.specs.Book.Tally.{Store}
-use Rattle.cloud_facts.specs.Book.Telling.{nodes_of, newest_leaf}
-use Rattle.cloud_facts.specs.Tellings.Told.{store_of}
+use Rattle.cloud_facts.specs.Book.Telling.{newest_leaf}
 use Rattle.tree_ckpt.proofs.LeafOutcomes.{Reads, Works, works}
 use Rattle.tree_ckpt.proofs.LeafOutcomes as step
 use Rattle.tree_ckpt.specs.Working.{HoldsLeaf}

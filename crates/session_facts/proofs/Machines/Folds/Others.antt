@@ -3,19 +3,14 @@ use Rattle.std.proofs.Common.{◌≡◌, ◌+◌, ◌<◌, ◌≤◌, ◌⊎◌,
 use Rattle.cloud_facts.specs.Chains.Chain.{IsUnlinked}
 use Rattle.cloud_facts.specs.Chains.Cuts.{leaf_node}
 use Rattle.cloud_facts.specs.Chains.Links.{top_of}
-use Rattle.cloud_trait.specs.Claim.{Claim, Lasts}
+use Rattle.cloud_facts.specs.Words.{IsClient, PuItem, Claim, Lasts, Link, Store, Node, Leafy, IsIn}
 use Rattle.db_base.specs.Change.{key_of}
-use Rattle.db_base.specs.Ids.{IsClient}
 use Rattle.db_base.specs.declared.names.Lock.TheVariants as lock
 use Rattle.tree_phases.specs.declared.folding.Folding.{Folding}
 use Rattle.leaf_view.specs.Lookup.{empty_leaf, holds}
-use Rattle.log_codec.specs.declared.record.PuItem.{PuItem}
 use Rattle.session_facts.proofs.Machines.Runs.Marks.{run_stays}
 use Rattle.split_plan.specs.Part.{LeafPart}
-use Rattle.cloud_facts.specs.Book.Book.{Link}
 use Rattle.cloud_facts.specs.Book.Growth.{Grows}
-use Rattle.cloud_facts.specs.Book.Records.{IsIn}
-use Rattle.cloud_facts.specs.Book.Tally.{Node, Leafy, Store}
 use Rattle.cloud_facts.specs.Book.Telling.{last_or}
 use Rattle.cloud_facts.specs.Tellings.Taking.{IsLinked}
 use Rattle.tree_phases.specs.declared.descent.Descent.{Descent}

@@ -6,42 +6,26 @@ use Rattle.std.proofs.lemmas.List.{append-nil, length-reverse}
 use Rattle.cloud_facts.specs.Chains.Chain.{IsChained}
 use Rattle.cloud_facts.specs.Chains.Links.{top_of}
 use Rattle.cloud_facts.specs.Calls.Acting.{Aside, Outcome}
-use Rattle.cloud_facts.specs.Calls.Call.{IsCall}
+use Rattle.cloud_facts.specs.Words.{IsClient, IsTree, Trouble, ObjName, Entry, PuItem, Leaf, Answer, CloudState, called, Caller, Claim, Lasts, Ask, PutHeld, done_of, Book, Store, at, IsIn, nodes_of, roots_of, store_of, IsCall, StandsUnder}
 use Rattle.cloud_facts.specs.Calls.Looks.{audit_of}
-use Rattle.cloud_facts.specs.Calls.Standing.{StandsUnder}
 use Rattle.cloud_facts.proofs.Calls.Calls.{permitted, put_cases, put_lasts}
-use Rattle.cloud_trait.specs.declared.answer.Answer.{Answer}
-use Rattle.cloud_trait.specs.Ask.{Ask, PutHeld, Lands}
-use Rattle.cloud_trait.specs.Caller.{Caller}
-use Rattle.cloud_trait.specs.Claim.{Claim, Lasts}
-use Rattle.cloud_trait.specs.State.{CloudState, called}
-use Rattle.cloud_trait.specs.Views.{done_of}
+use Rattle.cloud_trait.specs.Ask.{Lands}
 use Rattle.db_base.specs.Change.{key_of}
-use Rattle.db_base.specs.Ids.{IsClient, IsTree}
 use Rattle.db_base.specs.declared.names.Lock.TheVariants as lock
-use Rattle.db_base.specs.declared.names.ObjName.{ObjName}
 use Rattle.db_base.specs.declared.names.ObjName.TheVariants as object
-use Rattle.db_base.specs.declared.trouble.Trouble.{Trouble}
 use Rattle.history.specs.Audited.{applied_entry}
 use Rattle.cloud_facts.specs.Homes.Homes.{Part, Parts, HomesHold}
 use Rattle.cloud_facts.proofs.Homes.HomeLemmas.{keeps_part, aside_keeps}
 use Rattle.leaf_edit.specs.Lacked.{is_lacked, lacked}
 use Rattle.tree_phases.specs.declared.folding.Folding.{Folding}
 use Rattle.tree_phases.specs.Folding.{FoldingStep, folding_ask, folding_next, landed, counted}
-use Rattle.leaf_view.specs.Leaf.{Leaf}
 use Rattle.leaf_view.specs.Lookup.{holds, number_of as done_number}
-use Rattle.log_codec.specs.declared.record.PuItem.{PuItem}
-use Rattle.report_types.specs.declared.entry.Entry.{Entry}
 use Rattle.split_plan.specs.declared.put_list.PagePut.{PagePut}
 use Rattle.split_plan.specs.Part.{LeafPart}
 use Rattle.split_plan.specs.Plan.{put_of, on_pages, leaf_bytes}
-use Rattle.cloud_facts.specs.Book.Book.{Book}
 use Rattle.cloud_facts.specs.Book.Effects.{is_lacking, lacking, taken_entries}
-use Rattle.cloud_facts.specs.Book.Records.{IsIn}
-use Rattle.cloud_facts.specs.Book.Tally.{Store, at}
-use Rattle.cloud_facts.specs.Book.Telling.{leaf_in, nodes_of, roots_of, newest_leaf, newest_root}
+use Rattle.cloud_facts.specs.Book.Telling.{leaf_in, newest_leaf, newest_root}
 use Rattle.cloud_facts.proofs.Tellings.Finding.{found_before}
-use Rattle.cloud_facts.specs.Tellings.Told.{store_of}
 use Rattle.tree_ckpt.proofs.LeafOutcomes.{works}
 use Rattle.tree_ckpt.proofs.LeafOutcomes as step
 use Rattle.tree_ckpt.proofs.Tours.{page_left}

@@ -8,14 +8,10 @@ use Rattle.cloud_facts.specs.Chains.Chain.{IsUnlinked}
 use Rattle.cloud_facts.specs.Chains.Cuts.{links_on, HaveLanded, leaf_node}
 use Rattle.cloud_facts.specs.Chains.Landing.{LandsNew, LandsLeaf}
 use Rattle.cloud_facts.specs.Chains.Links.{top_of}
-use Rattle.cloud_facts.specs.Calls.Standing.{StandsUnder, IsTaken}
-use Rattle.cloud_trait.specs.Ask.{PutHeld}
-use Rattle.cloud_trait.specs.Caller.{Caller}
-use Rattle.cloud_trait.specs.Claim.{Claim}
-use Rattle.cloud_trait.specs.State.{CloudState}
+use Rattle.cloud_facts.specs.Words.{IsClient, IsTree, Entry, PuItem, Leaf, CloudState, Caller, Claim, PutHeld, Book, Store, IsIn, nodes_of, roots_of, store_of, StandsUnder}
+use Rattle.cloud_facts.specs.Calls.Standing.{IsTaken}
 use Rattle.db_base.specs.Change.{key_of}
 use Rattle.db_base.specs.Cursor.{number_of}
-use Rattle.db_base.specs.Ids.{IsClient, IsTree}
 use Rattle.db_base.specs.declared.names.ObjName.TheVariants as object
 use Rattle.cloud_facts.specs.Landings.Landing.{Landing, puts_page, puts_leaf}
 use Rattle.cloud_facts.specs.Landings.Landing as landing
@@ -24,11 +20,9 @@ use Rattle.leaf_edit.specs.Applied.{applied}
 use Rattle.leaf_edit.specs.Cut.{left_part, right_part}
 use Rattle.leaf_edit.specs.Raised.{raised, greatest_of}
 use Rattle.leaf_view.specs.Fits.{IsWellFormed, IsVersion}
-use Rattle.leaf_view.specs.Leaf.{Leaf, IsLeaf}
+use Rattle.leaf_view.specs.Leaf.{IsLeaf}
 use Rattle.leaf_view.specs.Lookup.{holds}
 use Rattle.leaf_view.proofs.Split.{fits_leaf}
-use Rattle.log_codec.specs.declared.record.PuItem.{PuItem}
-use Rattle.report_types.specs.declared.entry.Entry.{Entry}
 use Rattle.run_cursor.specs.Run.{IsRun}
 use Rattle.session_facts.proofs.Machines.Runs.Received.{each_in}
 use Rattle.session_facts.proofs.Machines.Runs.Taken.{consecutive, run_in, upto_greatest}
@@ -38,16 +32,12 @@ use Rattle.split_plan.specs.Cut.{IsNewPart, BeginAs, IsCut, cut_by}
 use Rattle.split_plan.specs.Part.{LeafPart, part_of_leaf, leaf_of_part, record_key}
 use Rattle.split_plan.specs.Plan.{IsLeafPart, leaf_bytes, leaf_pieces}
 use Rattle.split_plan.specs.Sizes.{CanCut, cuts_of}
-use Rattle.cloud_facts.specs.Book.Book.{Book}
 use Rattle.cloud_facts.specs.Book.Effects.{Taking, after_leaf, after_page}
 use Rattle.cloud_facts.specs.Book.Premises.{IsItemOf, Takes, LandsFirst, AreThere}
-use Rattle.cloud_facts.specs.Book.Records.{IsIn}
-use Rattle.cloud_facts.specs.Book.Tally.{Store}
-use Rattle.cloud_facts.specs.Book.Telling.{nodes_of, gone_of, roots_of, newest_leaf}
+use Rattle.cloud_facts.specs.Book.Telling.{gone_of, newest_leaf}
 use Rattle.cloud_facts.proofs.Book.Places.{in_front, in_behind}
 use Rattle.cloud_facts.specs.Tellings.Pieces.{first_part, right_of, left_leaf}
 use Rattle.cloud_facts.specs.Tellings.Taking.{AreClients, IsLinked, LandsTaken, taking_of}
-use Rattle.cloud_facts.specs.Tellings.Told.{store_of}
 use Rattle.cloud_facts.proofs.Tellings.Laws.{cut_taken, taken_lands}
 use Rattle.cloud_facts.proofs.Tellings.Ready.{taken_takes, piece_first}
 use Rattle.session_facts.specs.Machines.Trees.Placings.{AreReserved}

@@ -8,17 +8,13 @@ use Rattle.byte_format.proofs.OrderLemmas.{same_is}
 use Rattle.cloud_facts.proofs.Meanings.Keys.{few_records}
 use Rattle.cloud_facts.specs.Chains.Chain.{IsChained}
 use Rattle.cloud_facts.specs.Chains.Links.{top_of}
-use Rattle.cloud_facts.specs.Calls.Standing.{StandsUnder}
-use Rattle.cloud_trait.specs.Claim.{Claim, Lasts}
-use Rattle.cloud_trait.specs.State.{CloudState}
+use Rattle.cloud_facts.specs.Words.{Trouble, Entry, PuItem, Leaf, Tree, Version, CloudState, Claim, Lasts, Book, Store, Node, Leafy, Branch, IsIn, nodes_of, roots_of, store_of, StandsUnder}
 use Rattle.db_base.specs.Change.{key_of}
 use Rattle.db_base.specs.declared.names.ObjName.TheVariants as object
-use Rattle.db_base.specs.declared.trouble.Trouble.{Trouble}
 use Rattle.cloud_facts.specs.Decoding.Kinds.{IsNode}
 use Rattle.cloud_facts.proofs.Decoding.Newest.{IsLast, last_cases, last_map}
 use Rattle.cloud_facts.proofs.Decoding.Reading.{node_reads}
 use Rattle.cloud_facts.proofs.Decoding.Versions.{among_nth}
-use Rattle.cloud_trait.specs.declared.state.Version.{Version}
 use Rattle.leaf_edit.proofs.Whole.{applied-formed}
 use Rattle.leaf_edit.specs.Applied.{applied}
 use Rattle.leaf_edit.specs.Lacked.{lacked}
@@ -27,24 +23,17 @@ use Rattle.tree_phases.specs.declared.page_plan.PagePlan.{PagePlan}
 use Rattle.tree_phases.specs.Folding.{handled_to, put_planned}
 use Rattle.tree_phases.specs.Plan.{in_pieces, planned_by, planned, leaf_plan}
 use Rattle.leaf_view.specs.Fits.{IsWellFormed, IsVersion}
-use Rattle.leaf_view.specs.Leaf.{Leaf}
 use Rattle.leaf_view.specs.Lookup.{empty_leaf, holds}
 use Rattle.leaf_view.proofs.Split.{leaf_fits}
-use Rattle.log_codec.specs.declared.record.PuItem.{PuItem}
 use Rattle.log_codec.specs.Order.{IsOrdered}
 use Rattle.node_codec.proofs.EntryLemmas.{above, below_chain}
 use Rattle.node_codec.proofs.NodeLemmas.{in_range_parts}
 use Rattle.node_codec.proofs.TreeLemmas.{tree_fits}
-use Rattle.node_codec.specs.Tree.{Tree, HasTreeSpelling, empty_tree}
-use Rattle.report_types.specs.declared.entry.Entry.{Entry}
+use Rattle.node_codec.specs.Tree.{HasTreeSpelling, empty_tree}
 use Rattle.split_plan.specs.Part.{LeafPart}
 use Rattle.split_plan.specs.Plan.{IsLeafPart, leaf_pieces}
 use Rattle.split_plan.specs.Sizes.{count_of}
-use Rattle.cloud_facts.specs.Book.Book.{Book}
-use Rattle.cloud_facts.specs.Book.Records.{IsIn}
-use Rattle.cloud_facts.specs.Book.Tally.{Node, Leafy, Branch, Store}
-use Rattle.cloud_facts.specs.Book.Telling.{last_or, leaf_in, node_in, with_bytes, nodes_of, gone_of, roots_of, newest_leaf}
-use Rattle.cloud_facts.specs.Tellings.Told.{store_of}
+use Rattle.cloud_facts.specs.Book.Telling.{last_or, leaf_in, node_in, with_bytes, gone_of, newest_leaf}
 use Rattle.tree_phases.specs.declared.reserve.Reserved.{Reserved}
 use Rattle.tree_phases.specs.Read.{tree_held}
 use Rattle.tree_phases.specs.Reserve.{version_spent, reservation}

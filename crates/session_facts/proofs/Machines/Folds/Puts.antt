@@ -4,36 +4,25 @@ use Rattle.std.specs.Prelude.{unwrap_or}
 use Rattle.std.specs.List.{AllByRecursion}
 use Rattle.cloud_facts.specs.Chains.Cuts.{leaf_node}
 use Rattle.cloud_facts.specs.Chains.Links.{top_of}
-use Rattle.cloud_facts.specs.Calls.Standing.{StandsUnder, IsTaken}
-use Rattle.cloud_trait.specs.Ask.{GetHeld, PutHeld}
-use Rattle.cloud_trait.specs.Caller.{Caller}
-use Rattle.cloud_trait.specs.Claim.{Claim, Lasts}
-use Rattle.cloud_trait.specs.State.{CloudState}
+use Rattle.cloud_facts.specs.Words.{IsClient, IsTree, Entry, PuItem, Leaf, CloudState, Caller, Claim, Lasts, GetHeld, PutHeld, Book, Store, Node, Leafy, IsIn, nodes_of, roots_of, store_of, StandsUnder}
+use Rattle.cloud_facts.specs.Calls.Standing.{IsTaken}
 use Rattle.db_base.specs.Change.{key_of}
 use Rattle.db_base.specs.Cursor.{number_of}
-use Rattle.db_base.specs.Ids.{IsClient, IsTree}
 use Rattle.db_base.specs.declared.names.ObjName.TheVariants as object
 use Rattle.cloud_facts.specs.Landings.Landing.{Landing}
 use Rattle.cloud_facts.specs.Landings.Landing as landing
 use Rattle.leaf_edit.specs.Applied.{applied}
 use Rattle.tree_phases.specs.declared.folding.Folding.{Folding}
 use Rattle.tree_phases.specs.Folding.{folding_ask, landed}
-use Rattle.leaf_view.specs.Leaf.{Leaf}
 use Rattle.leaf_view.specs.Lookup.{empty_leaf, holds}
-use Rattle.log_codec.specs.declared.record.PuItem.{PuItem}
-use Rattle.report_types.specs.declared.entry.Entry.{Entry}
 use Rattle.run_cursor.specs.Run.{IsRun}
 use Rattle.split_plan.specs.declared.put_list.PagePut.{PagePut}
 use Rattle.split_plan.specs.Part.{LeafPart}
 use Rattle.split_plan.specs.Plan.{IsLeafPart, put_of, on_pages, leaf_bytes, leaf_pieces}
-use Rattle.cloud_facts.specs.Book.Book.{Book}
 use Rattle.cloud_facts.specs.Book.Effects.{after_leaf, after_page}
 use Rattle.cloud_facts.specs.Book.Premises.{IsItemOf}
-use Rattle.cloud_facts.specs.Book.Records.{IsIn}
-use Rattle.cloud_facts.specs.Book.Tally.{Node, Leafy, Store}
-use Rattle.cloud_facts.specs.Book.Telling.{last_or, leaf_in, nodes_of, gone_of, roots_of, newest_leaf}
+use Rattle.cloud_facts.specs.Book.Telling.{last_or, leaf_in, gone_of, newest_leaf}
 use Rattle.cloud_facts.proofs.Tellings.Names.{at2_same, at2_beside}
-use Rattle.cloud_facts.specs.Tellings.Told.{store_of}
 use Rattle.tree_phases.specs.Placing.{put_next, put_first, puts_after}
 use Rattle.tree_phases.specs.Read.{tree_held}
 use Rattle.session_facts.specs.Machines.Folds.Knows.{IsDone, AreDoneTo, Reserves, PutsPieces}

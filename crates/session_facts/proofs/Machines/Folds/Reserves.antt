@@ -3,26 +3,14 @@ use Rattle.std.proofs.Common.{◌≡◌, ◌+◌, ◌≤◌, inl, ℕ, List, [],
 use Rattle.cloud_facts.specs.Chains.Landing.{MayReserve}
 use Rattle.cloud_facts.specs.Chains.Cuts.{leaf_node}
 use Rattle.cloud_facts.specs.Chains.Links.{top_of}
-use Rattle.cloud_facts.specs.Calls.Standing.{StandsUnder}
-use Rattle.cloud_trait.specs.Ask.{PutHeld}
-use Rattle.cloud_trait.specs.Caller.{Caller}
-use Rattle.cloud_trait.specs.Claim.{Claim, Lasts}
-use Rattle.cloud_trait.specs.State.{CloudState}
-use Rattle.db_base.specs.Ids.{IsTree}
+use Rattle.cloud_facts.specs.Words.{IsTree, Entry, PuItem, Tree, CloudState, Caller, Claim, Lasts, PutHeld, Book, Store, roots_of, store_of, StandsUnder}
 use Rattle.db_base.specs.declared.names.ObjName.TheVariants as object
 use Rattle.cloud_facts.specs.Landings.Landing.{Landing}
 use Rattle.leaf_edit.specs.Applied.{applied}
 use Rattle.tree_phases.specs.declared.folding.Folding.{Folding}
 use Rattle.tree_phases.specs.Folding.{landed}
-use Rattle.log_codec.specs.declared.record.PuItem.{PuItem}
-use Rattle.node_codec.specs.Tree.{Tree}
-use Rattle.report_types.specs.declared.entry.Entry.{Entry}
 use Rattle.split_plan.specs.Part.{LeafPart}
-use Rattle.cloud_facts.specs.Book.Book.{Book}
 use Rattle.cloud_facts.specs.Book.Effects.{after_root}
-use Rattle.cloud_facts.specs.Book.Tally.{Store}
-use Rattle.cloud_facts.specs.Book.Telling.{roots_of}
-use Rattle.cloud_facts.specs.Tellings.Told.{store_of}
 use Rattle.tree_phases.specs.Placing.{root_after, puts_after}
 use Rattle.tree_phases.specs.Read.{tree_held}
 use Rattle.session_facts.specs.Machines.Trees.Charts.{KnowsRoot}

@@ -4,30 +4,18 @@ use Rattle.std.proofs.lemmas.Bool.{eq-eqb}
 use Rattle.std.proofs.lemmas.List.{length-reverse, length-map}
 use Rattle.byte_format.specs.Order.{bytes_below, bytes_same}
 use Rattle.byte_format.proofs.OrderLemmas.{same_itself}
-use Rattle.cloud_facts.specs.Calls.Standing.{StandsUnder}
-use Rattle.cloud_trait.specs.declared.answer.Answer.{Answer}
-use Rattle.cloud_trait.specs.Claim.{Claim}
-use Rattle.cloud_trait.specs.State.{CloudState, newest}
-use Rattle.cloud_trait.specs.Views.{got_of}
+use Rattle.cloud_facts.specs.Words.{Trouble, Entry, PuItem, Leaf, Tree, Answer, CloudState, newest, Claim, got_of, Book, Store, nodes_of, store_of, StandsUnder}
 use Rattle.db_base.specs.declared.names.ObjName.TheVariants as object
-use Rattle.db_base.specs.declared.trouble.Trouble.{Trouble}
 use Rattle.leaf_edit.specs.Applied.{applied}
 use Rattle.tree_phases.specs.declared.folding.Folding.{Folding}
 use Rattle.tree_phases.specs.declared.page_plan.PagePlan.{PagePlan}
 use Rattle.tree_phases.specs.Folding.{FoldingStep, folding_next}
 use Rattle.tree_phases.specs.Plan.{planned_by, leaf_plan}
 use Rattle.tree_phases.specs.Plan as plan
-use Rattle.leaf_view.specs.Leaf.{Leaf}
 use Rattle.leaf_view.specs.Lookup.{page_at}
-use Rattle.log_codec.specs.declared.record.PuItem.{PuItem}
-use Rattle.node_codec.specs.Tree.{Tree}
-use Rattle.report_types.specs.declared.entry.Entry.{Entry}
 use Rattle.split_plan.specs.declared.put_list.PagePut.{PagePut}
 use Rattle.split_plan.specs.Plan.{put_of, on_pages, leaf_bytes}
-use Rattle.cloud_facts.specs.Book.Book.{Book}
-use Rattle.cloud_facts.specs.Book.Tally.{Store}
-use Rattle.cloud_facts.specs.Book.Telling.{nodes_of, newest_leaf}
-use Rattle.cloud_facts.specs.Tellings.Told.{store_of}
+use Rattle.cloud_facts.specs.Book.Telling.{newest_leaf}
 use Rattle.session_facts.specs.Machines.TreeCheckpoints.Knows.{MayStopTree}
 use Rattle.session_facts.proofs.Machines.TreeCheckpoints.Stops.{StopsWell, IsFair, spent_may, got_may, done_may, reservation_fair}
 use Rattle.session_facts.specs.Machines.Trees.Leaves.{IsReading, IsPutting}

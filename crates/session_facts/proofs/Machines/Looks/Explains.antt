@@ -1,18 +1,10 @@
 -- Why a look-up stops: a get of its walk failed or was stale.
 use Rattle.std.proofs.Common.{◌≡◌, List, Some}
 use Rattle.attr_index.specs.Look.{Own, Look, look_ask, look_next}
-use Rattle.cloud_facts.specs.Calls.Standing.{StandsUnder}
-use Rattle.cloud_trait.specs.declared.answer.Answer.{Answer}
-use Rattle.cloud_trait.specs.Caller.{Caller}
-use Rattle.cloud_trait.specs.Claim.{Claim}
-use Rattle.cloud_trait.specs.Seen.{Seen}
-use Rattle.cloud_trait.specs.State.{CloudState}
+use Rattle.cloud_facts.specs.Words.{Entry, Answer, CloudState, Caller, Seen, Claim, Book, store_of, StandsUnder}
 use Rattle.cloud_trait.specs.Weather.{Makes}
 use Rattle.db_base.specs.declared.trouble.Counter.{Counter}
 use Rattle.page_cache.specs.Cache.{Cache}
-use Rattle.report_types.specs.declared.entry.Entry.{Entry}
-use Rattle.cloud_facts.specs.Book.Book.{Book}
-use Rattle.cloud_facts.specs.Tellings.Told.{store_of}
 use Rattle.session_facts.specs.Machines.Looks.Knows.{KnowsLooking, LookLeads}
 use Rattle.session_facts.specs.Sessions.Explains.{IsShown}
 use Rattle.session_facts.proofs.Machines.Looks.Outcome.{look_leads}

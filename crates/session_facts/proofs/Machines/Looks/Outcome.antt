@@ -5,23 +5,12 @@ use Rattle.attr_index.specs.Prefix.{prefix_of}
 use Rattle.attr_index.specs.declared.stage.Stage.{Stage}
 use Rattle.attr_index.specs.declared.stage.Stage.TheVariants.{Index, Records}
 use Rattle.byte_format.specs.Order.{below_bound}
-use Rattle.cloud_facts.specs.Book.Book.{Book}
+use Rattle.cloud_facts.specs.Words.{IsTree, Trouble, Entry, Leaf, Answer, CloudState, Caller, Next, Goes, Ends, Stops, Book, Store, store_of, IsCall, StandsUnder}
 use Rattle.cloud_facts.specs.Book.Growth.{Grows}
-use Rattle.cloud_facts.specs.Book.Tally.{Store}
-use Rattle.cloud_facts.specs.Calls.Call.{IsCall}
-use Rattle.cloud_facts.specs.Calls.Standing.{StandsUnder}
 use Rattle.cloud_facts.specs.Chains.Chain.{ChainHolds}
-use Rattle.cloud_facts.specs.Tellings.Told.{store_of}
-use Rattle.cloud_trait.specs.Caller.{Caller}
-use Rattle.cloud_trait.specs.Machine.{Next, Goes, Ends, Stops}
-use Rattle.cloud_trait.specs.State.{CloudState}
-use Rattle.cloud_trait.specs.declared.answer.Answer.{Answer}
-use Rattle.db_base.specs.Ids.{IsTree, index_of}
-use Rattle.db_base.specs.declared.trouble.Trouble.{Trouble}
-use Rattle.leaf_view.specs.Leaf.{Leaf}
+use Rattle.db_base.specs.Ids.{index_of}
 use Rattle.page_cache.specs.Cache.{Cache}
 use Rattle.page_cache.specs.Held.{leaf_at}
-use Rattle.report_types.specs.declared.entry.Entry.{Entry}
 use Rattle.session_facts.specs.Machines.Looks.Knows.{IsIndexed, KnowsLook, KnowsLooking, LookLeads}
 use Rattle.session_facts.specs.Machines.Walks.Caches.{KnowsCache}
 use Rattle.session_facts.specs.Machines.Walks.Knows.{MayStopWalk, WalkLeads}

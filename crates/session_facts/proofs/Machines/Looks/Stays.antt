@@ -5,9 +5,7 @@ use Rattle.attr_index.specs.Prefix.{prefix_of}
 use Rattle.attr_index.specs.declared.stage.Stage.{Stage}
 use Rattle.attr_index.specs.declared.stage.Stage.TheVariants.{Index, Records}
 use Rattle.byte_format.specs.Order.{below_bound}
-use Rattle.cloud_trait.specs.Machine.{Next, Goes, Ends, Stops}
-use Rattle.cloud_trait.specs.declared.answer.Answer.{Answer}
-use Rattle.leaf_view.specs.Leaf.{Leaf}
+use Rattle.cloud_facts.specs.Words.{Leaf, Answer, Next, Goes, Ends, Stops}
 use Rattle.page_cache.specs.Cache.{Cache}
 use Rattle.page_cache.specs.Held.{leaf_at}
 use Rattle.tree_walk.specs.Walk.{Walk, object_of, walk_ready, walk_next}

@@ -1,12 +1,10 @@
 -- An opening begins.
 use Rattle.std.proofs.Common.{ℕ, Option, Some, None, refl}
-use Rattle.cloud_trait.specs.Claim.{Claim}
-use Rattle.db_base.specs.Ids.{IsClient}
+use Rattle.cloud_facts.specs.Words.{IsClient, Claim, Store}
 use Rattle.cloud_facts.specs.Homes.Homes.{Away}
 use Rattle.session_facts.specs.Machines.Openings.Knows.{KnowsOpening}
 use Rattle.recover_run.specs.declared.stage.Aim.{Aim}
 use Rattle.recover_run.specs.Recovery.{new_recovery}
-use Rattle.cloud_facts.specs.Book.Tally.{Store}
 
 -- nothing need be known before its first call
 pub opening_begins : (st : Store) (now client : ℕ) (aim : Aim) (old : Option Claim) → IsClient client → KnowsOpening st now (new_recovery client aim old) Away

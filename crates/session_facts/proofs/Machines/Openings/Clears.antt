@@ -1,11 +1,9 @@
 -- Where the steps of an opening lead behind its put, and what is known there.
 use Rattle.std.proofs.Common.{◌≡◌, ℕ, List, [], ◌∷◌, ◌++◌, Option, Result, Ok, Err, refl, sym, subst}
 use Rattle.std.specs.List.{AllByRecursion}
-use Rattle.cloud_trait.specs.Claim.{Claim}
+use Rattle.cloud_facts.specs.Words.{IsClient, Trouble, Claim, Store, at}
 use Rattle.cloud_trait.specs.Delivery.{WasSent}
 use Rattle.cloud_trait.specs.declared.message.Message.{Message}
-use Rattle.db_base.specs.Ids.{IsClient}
-use Rattle.db_base.specs.declared.trouble.Trouble.{Trouble}
 use Rattle.cloud_facts.specs.Homes.Homes.{Part, Parts, HomesHold}
 use Rattle.session_facts.specs.Machines.Openings.Knows.{IsMessageThat, MayStopOpening, EndsWell, KnowsPut, KnowsEnd}
 use Rattle.session_facts.proofs.Machines.Openings.Gathered.{AllRead, rest_all}
@@ -21,7 +19,6 @@ use Rattle.recover_run.specs.Ids.{new_ids, rest_of}
 use Rattle.recover_run.specs.Items.{items_of, ids_of}
 use Rattle.recover_run.specs.Recovery.{Recovery, releasing, clearing, clearing_kept, kept_ids, cleared, opened, sweeping, swept_with, swept_by, home_with}
 use Rattle.recover_run.proofs.KeptRecords.{all_new}
-use Rattle.cloud_facts.specs.Book.Tally.{Store, at}
 
 module _ (session : ℕ) (parts : Parts) (u : Store) (now : ℕ) (part : Part) (homes : HomesHold u.tally now (at session part parts)) where
   stops : (r : Recovery) (ending : Result RecoverAnswer Trouble) → EndsWell ending → IsClient r.client → KnowsPut u now r part → LeadsToPart session parts u now (releasing r ending)

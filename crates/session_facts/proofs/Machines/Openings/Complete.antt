@@ -7,16 +7,12 @@ use Rattle.std.proofs.lemmas.Map.Keys.{IsDistinct-cons}
 use Rattle.std.proofs.lemmas.Map.Steps.{length-le_from_distinct_below}
 use Rattle.cloud_trait.specs.Delivery.{WasSent, unmarked}
 use Rattle.cloud_trait.specs.declared.message.Message.{Message}
-use Rattle.cloud_trait.specs.declared.state.Posted.{Posted}
-use Rattle.db_base.specs.Ids.{IsClient}
-use Rattle.head_codec.specs.declared.head.Head.{Head}
+use Rattle.cloud_facts.specs.Words.{IsClient, AtomicRec, Head, Posted, Store, StandsAt}
 use Rattle.head_codec.specs.declared.head.Phase.{Phase}
 use Rattle.head_codec.specs.declared.head.Phase.TheVariants.{Settled, Open}
 use Rattle.log_codec.proofs.AtomicLaws.{atomic_of-some}
 use Rattle.log_codec.specs.Atomic.{atomic_of}
-use Rattle.log_codec.specs.declared.record.AtomicRec.{AtomicRec}
-use Rattle.cloud_facts.specs.Book.Records.{StandsAt, under_way}
-use Rattle.cloud_facts.specs.Book.Tally.{Store}
+use Rattle.cloud_facts.specs.Book.Records.{under_way}
 use Rattle.cloud_facts.specs.Lefts.Left.{IsWayAt, HasWay, AreLogged, Leaves}
 use Rattle.cloud_facts.proofs.Lefts.Ways.{of_ways}
 use Rattle.cloud_facts.proofs.Numbers.Ways.{is_way, way_epoch, way_txn}

@@ -4,13 +4,11 @@ use Rattle.cloud_facts.proofs.Numbers.Queues.{count_of-append}
 use Rattle.cloud_facts.specs.Book.Growth.{Grows}
 use Rattle.cloud_facts.proofs.Book.Places.{in_front}
 use Rattle.cloud_facts.specs.Book.Premises.{Settles}
-use Rattle.cloud_facts.specs.Book.Records.{IsIn, count_of}
-use Rattle.cloud_facts.specs.Book.Tally.{Store}
+use Rattle.cloud_facts.specs.Words.{AtomicRec, Head, Store, IsIn}
+use Rattle.cloud_facts.specs.Book.Records.{count_of}
 use Rattle.cloud_facts.specs.Numbers.Numbers.{Numbers}
 use Rattle.cloud_trait.specs.Growth.{BeginsWith}
-use Rattle.head_codec.specs.declared.head.Head.{Head}
 use Rattle.head_codec.specs.declared.lists.QueueCount.{QueueCount}
-use Rattle.log_codec.specs.declared.record.AtomicRec.{AtomicRec}
 use Rattle.session_facts.specs.Machines.Openings.Client.{AreCounted}
 
 pub counted_in : (log more : List AtomicRec) (client : ℕ) (counters : List QueueCount) → BeginsWith log more → AreCounted log client counters → AreCounted more client counters

@@ -2,15 +2,12 @@
 use Rattle.std.proofs.Common.{◌≡◌, ◌⊎◌, inl, inr, ℕ, List, sym, subst}
 use Rattle.cloud_facts.specs.Book.Growth.{Grows}
 use Rattle.cloud_facts.specs.Book.Premises.{Settles}
-use Rattle.cloud_facts.specs.Book.Records.{IsIn, IsUnderWay}
-use Rattle.cloud_facts.specs.Book.Tally.{Store}
+use Rattle.cloud_facts.specs.Words.{IsTree, AtomicRec, Head, Store, IsIn}
+use Rattle.cloud_facts.specs.Book.Records.{IsUnderWay}
 use Rattle.cloud_facts.specs.Landings.Holding.{Holds}
 use Rattle.cloud_facts.specs.Pendings.Pending.{IsOwn}
 use Rattle.cloud_facts.proofs.Calls.Copies.{log_stays}
-use Rattle.db_base.specs.Ids.{IsTree}
-use Rattle.head_codec.specs.declared.head.Head.{Head}
 use Rattle.head_codec.specs.declared.lists.Pending.{Pending}
-use Rattle.log_codec.specs.declared.record.AtomicRec.{AtomicRec}
 use Rattle.route_plan.specs.Record.{pending_of}
 use Rattle.session_facts.specs.Machines.Openings.Client.{AreOfTrees, AreOfRecords}
 

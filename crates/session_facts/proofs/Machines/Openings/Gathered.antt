@@ -5,13 +5,10 @@ use Rattle.std.specs.List.{AllByRecursion}
 use Rattle.std.proofs.lemmas.Bool.{cases_lt}
 use Rattle.std.proofs.lemmas.List.{take_all}
 use Rattle.cloud_facts.specs.Calls.Others.{WasSentOn}
-use Rattle.cloud_trait.specs.Ask.{Ask}
+use Rattle.cloud_facts.specs.Words.{IsClient, Trouble, Answer, Ask, Store, at, StandsAt}
 use Rattle.cloud_trait.specs.Delivery.{WasSent}
-use Rattle.cloud_trait.specs.declared.answer.Answer.{Answer}
 use Rattle.cloud_trait.specs.declared.answer.Answer.TheVariants.{Received}
 use Rattle.cloud_trait.specs.declared.message.Message.{Message}
-use Rattle.db_base.specs.Ids.{IsClient}
-use Rattle.db_base.specs.declared.trouble.Trouble.{Trouble}
 use Rattle.db_base.specs.declared.trouble.Trouble.TheVariants as trouble
 use Rattle.cloud_facts.specs.Homes.Homes.{Part, Parts, HomesHold}
 use Rattle.cloud_facts.specs.Lefts.Left.{IsCopied, AreLogged}
@@ -31,8 +28,6 @@ use Rattle.recover_run.specs.Recovery.{Recovery, receive_next, goes_to, stopping
 use Rattle.recover_run.proofs.KeptRecords.{all_so, all_new, all_held, kept_rising, take_more, pending_more, pending_none}
 use Rattle.recover_run.proofs.Knows.{IsRising}
 use Rattle.route_plan.proofs.Places.{past_none}
-use Rattle.cloud_facts.specs.Book.Records.{StandsAt}
-use Rattle.cloud_facts.specs.Book.Tally.{Store, at}
 
 -- the ids behind the first
 pub rest_all : (P : ℕ → Type 0) (ids : List ℕ) → AllByRecursion P ids → AllByRecursion P (rest_of ids)

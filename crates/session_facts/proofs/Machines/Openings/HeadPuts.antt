@@ -1,12 +1,9 @@
 -- The puts of heads that an opening has in hand.
 use Rattle.std.proofs.Common.{◌≡◌, ℕ, Bool, true, false, List, [], ◌∷◌, Option, Some, None, refl, sym, ap, subst, ◌∙◌}
 use Rattle.std.specs.Prelude.{slice_get}
-use Rattle.cloud_trait.specs.Ask.{Ask, GetHeld, PutHeld, Release}
-use Rattle.cloud_trait.specs.Claim.{Claim}
-use Rattle.db_base.specs.declared.names.ObjName.{ObjName}
+use Rattle.cloud_facts.specs.Words.{ObjName, Head, Claim, Ask, GetHeld, PutHeld, Release, Store}
 use Rattle.db_base.specs.declared.names.ObjName.TheVariants as object
 use Rattle.head_codec.specs.Spelling.{head_of}
-use Rattle.head_codec.specs.declared.head.Head.{Head}
 use Rattle.cloud_facts.specs.Homes.Homes.{Part}
 use Rattle.session_facts.specs.Machines.Openings.Knows.{KnowsOpeningAt, KnowsOpening}
 use Rattle.session_facts.specs.Machines.Openings.HeadPuts.{PutsHead}
@@ -14,7 +11,6 @@ use Rattle.recover_run.specs.declared.items.AtomicItem.{AtomicItem}
 use Rattle.recover_run.specs.declared.stage.Stage.{Stage}
 use Rattle.recover_run.specs.declared.stage.Stage.TheVariants.{ReleasingOld, Taking, Getting, Receiving, Deleting, Sending, Putting, Clearing, Sweeping, Releasing, Finished}
 use Rattle.recover_run.specs.Recovery.{Recovery, ask_at, recovery_ask, under, delete_next, send_next, IsSound, IsSoundAt}
-use Rattle.cloud_facts.specs.Book.Tally.{Store}
 
 -- ---- what an ask puts
 

@@ -4,25 +4,17 @@ use Rattle.std.specs.Prelude.{slice_get}
 use Rattle.std.specs.List.{AllByRecursion}
 use Rattle.std.proofs.lemmas.List.{append-nil}
 use Rattle.cloud_facts.specs.Calls.Acting.{IsPruned, KnowsHome, Setting, Outcome}
-use Rattle.cloud_facts.specs.Calls.Call.{IsCall}
+use Rattle.cloud_facts.specs.Words.{IsClient, Trouble, Entry, AtomicRec, Head, Answer, CloudState, called, Caller, Lasts, Ask, PutHeld, Send, Delete, done_of, sent_of, Book, Store, at, IsIn, store_of, IsCall}
 use Rattle.cloud_facts.specs.Calls.Looks.{audit_of}
 use Rattle.cloud_facts.specs.Calls.Others.{Passes, WasSentOn}
 use Rattle.cloud_facts.proofs.Calls.Calls.{put_cases, put_lasts, send_cases, delete_cases}
 use Rattle.cloud_facts.proofs.Calls.OthersLemmas.{pruned_itself}
 use Rattle.cloud_facts.proofs.Calls.Outcomes.{stays, other_landed, put_landed}
 use Rattle.cloud_facts.proofs.Calls.Passing.{landing_passes, passes_itself}
-use Rattle.cloud_trait.specs.declared.answer.Answer.{Answer}
-use Rattle.cloud_trait.specs.Ask.{Ask, PutHeld, Send, Delete, Lands}
-use Rattle.cloud_trait.specs.Caller.{Caller}
-use Rattle.cloud_trait.specs.Claim.{Lasts}
-use Rattle.cloud_trait.specs.State.{CloudState, called}
-use Rattle.cloud_trait.specs.Views.{sent_of, done_of}
-use Rattle.db_base.specs.Ids.{IsClient}
+use Rattle.cloud_trait.specs.Ask.{Lands}
 use Rattle.db_base.specs.declared.names.ObjName.TheVariants as object
 use Rattle.db_base.specs.declared.names.QueueName.TheVariants as queue
-use Rattle.db_base.specs.declared.trouble.Trouble.{Trouble}
 use Rattle.head_codec.specs.Spelling.{head_of}
-use Rattle.head_codec.specs.declared.head.Head.{Head}
 use Rattle.cloud_facts.specs.Copies.Copies.{SendsInTurn}
 use Rattle.cloud_facts.specs.Homes.Homes.{Home, Part, Parts, AtHome, PartHolds, HomesHold, HomeHolds, OpeningHolds, IsSpared}
 use Rattle.cloud_facts.proofs.Homes.HomeLemmas.{keeps_part, opened_keeps, marked_keeps, aside_keeps, spared_read, spared_early}
@@ -30,7 +22,6 @@ use Rattle.cloud_facts.specs.Landings.Landing.{Landing, settles, posts, marks_lo
 use Rattle.cloud_facts.specs.Lefts.Left.{IsCopied}
 use Rattle.cloud_facts.proofs.Lefts.MessageLemmas.{marked_deleted}
 use Rattle.log_codec.specs.Pu.{pu_of}
-use Rattle.log_codec.specs.declared.record.AtomicRec.{AtomicRec}
 use Rattle.session_facts.specs.Machines.Openings.Knows.{leases_of_recovery, IsWanted, IsMessageThat, MayStopOpening, KnowsGathering, KnowsSifted, KnowsLost, KnowsSending, KnowsPut, KnowsNext, opening_with}
 use Rattle.session_facts.proofs.Machines.Openings.Clears.{kept_leads, cleared_leads}
 use Rattle.session_facts.proofs.Machines.Openings.Gathered.{sent_leads, deleted_leads}
@@ -46,19 +37,14 @@ use Rattle.recover_run.specs.declared.wanted.Wanted.{Wanted}
 use Rattle.recover_run.specs.Gathering.{is_lost, is_past}
 use Rattle.recover_run.specs.Ids.{rest_of}
 use Rattle.recover_run.specs.Recovery.{Recovery, Step, deleted_by, cleared, sent_by as sent_next, put_by}
-use Rattle.report_types.specs.declared.entry.Entry.{Entry}
 use Rattle.route_plan.specs.Record.{pu_record_of}
-use Rattle.cloud_facts.specs.Book.Book.{Book}
 use Rattle.cloud_facts.specs.Book.Effects.{after_head, after_log_mark, after_posted}
 use Rattle.cloud_facts.specs.Book.Messages.{IsLogMessage, IsDeleted}
 use Rattle.cloud_facts.specs.Book.Premises.{MarksLog, Settles}
 use Rattle.session_facts.proofs.Machines.Openings.Counted.{counted_stay, settled_counted}
 use Rattle.session_facts.proofs.Machines.Openings.Entries.{settled_trees, settled_records, records_stay}
-use Rattle.cloud_facts.specs.Book.Records.{IsIn}
-use Rattle.cloud_facts.specs.Book.Tally.{Store, at}
 use Rattle.cloud_facts.specs.Book.Telling.{queue_of}
 use Rattle.cloud_facts.proofs.Book.Names.{at_same}
-use Rattle.cloud_facts.specs.Tellings.Told.{store_of}
 
 module _ (who : Caller) (book : Book) (order : List Entry) (s t : CloudState) (parts : Parts) (r : Recovery) (part : Part) (reply : Answer)
     (setting : Setting book order s t.now parts who.session (leases_of_recovery r)) (mine : parts who.session ≡ part) (is : IsClient r.client) where

@@ -2,20 +2,13 @@
 use Rattle.std.proofs.Common.{◌≡◌, ℕ, zero, suc, List, [], ◌∷◌, ◌++◌, Option, Some, None, Err, refl, sym, ap, subst, ◌∙◌}
 use Rattle.std.specs.Prelude.{slice_get}
 use Rattle.cloud_facts.proofs.Book.Places.{in_none}
-use Rattle.cloud_facts.specs.Book.Records.{IsIn}
-use Rattle.cloud_facts.specs.Book.Tally.{Store}
+use Rattle.cloud_facts.specs.Words.{Trouble, Lock, Answer, Claim, Ask, GetHeld, PutHeld, Release, Goes, Ends, Stops, given_of, Store, IsIn}
 use Rattle.cloud_facts.specs.Calls.Acting.{of_option}
 use Rattle.cloud_facts.specs.Homes.Homes.{Part}
-use Rattle.cloud_trait.specs.declared.answer.Answer.{Answer}
 use Rattle.cloud_trait.specs.declared.answer.Answer.TheVariants.{Got, Sent, Received, Listed, Done, Given, Held, Renewed, Late, Failed, Memory}
-use Rattle.cloud_trait.specs.Ask.{Ask, GetHeld, PutHeld, Release}
-use Rattle.cloud_trait.specs.Claim.{Claim, IsOver}
-use Rattle.cloud_trait.specs.Machine.{Goes, Ends, Stops}
-use Rattle.cloud_trait.specs.Views.{given_of}
-use Rattle.db_base.specs.declared.names.Lock.{Lock}
+use Rattle.cloud_trait.specs.Claim.{IsOver}
 use Rattle.db_base.specs.declared.names.Lock.TheVariants as lock
 use Rattle.db_base.specs.declared.names.ObjName.TheVariants as object
-use Rattle.db_base.specs.declared.trouble.Trouble.{Trouble}
 use Rattle.db_base.specs.declared.trouble.Trouble.TheVariants as trouble
 use Rattle.recover_run.specs.declared.items.AtomicItem.{AtomicItem}
 use Rattle.recover_run.specs.declared.stage.Stage.{Stage}

@@ -2,15 +2,13 @@
 use Rattle.std.proofs.Common.{◌≡◌, ◌<◌, ◌≤◌, ◌==◌, ◌⊎◌, inl, inr, ℕ, Bool, true, false, sym, ap, ◌∙◌, arith}
 use Rattle.std.specs.Prelude.{not}
 use Rattle.std.proofs.lemmas.Bool.{and_parts, and_from, eq-eqb, leb-true}
-use Rattle.head_codec.specs.declared.head.Head.{Head}
-use Rattle.log_codec.specs.declared.record.AtomicRec.{AtomicRec}
+use Rattle.cloud_facts.specs.Words.{AtomicRec, Head, Store}
 use Rattle.session_facts.specs.Machines.Openings.Knows.{IsMessageThat}
 use Rattle.recover_run.specs.declared.wanted.Wanted.{Wanted}
 use Rattle.recover_run.specs.Gathering.{wanted_of, is_of, is_past, is_lost}
 use Rattle.cloud_facts.specs.Book.Messages.{IsLogMessage}
 use Rattle.cloud_facts.specs.Book.Premises.{MarksLog}
 use Rattle.cloud_facts.specs.Book.Records.{is_open}
-use Rattle.cloud_facts.specs.Book.Tally.{Store}
 use Rattle.session_facts.proofs.Machines.Commits.Records.{one_record}
 
 -- a record that passes as a past one is of no later epoch than is wanted

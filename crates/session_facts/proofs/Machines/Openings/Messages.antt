@@ -9,19 +9,17 @@ use Rattle.cloud_trait.specs.Growth.{BeginsWith}
 use Rattle.cloud_trait.specs.State.{message_at}
 use Rattle.cloud_trait.specs.Upto.{posts_of}
 use Rattle.cloud_trait.specs.declared.message.Message.{Message}
-use Rattle.cloud_trait.specs.declared.state.Posted.{Posted}
+use Rattle.cloud_facts.specs.Words.{AtomicRec, Posted, Store}
 use Rattle.cloud_facts.proofs.Calls.Copies.{message_stays}
 use Rattle.cloud_facts.specs.Lefts.Left.{AreLogged}
 use Rattle.log_codec.proofs.AtomicLaws.{atomic_of-some}
 use Rattle.log_codec.specs.Atomic.{atomic_of}
-use Rattle.log_codec.specs.declared.record.AtomicRec.{AtomicRec}
 use Rattle.session_facts.specs.Machines.Openings.Knows.{IsCommitted, IsWanted, IsMessageThat}
 use Rattle.recover_run.specs.declared.items.AtomicItem.{AtomicItem}
 use Rattle.recover_run.specs.declared.wanted.Wanted.{Wanted}
 use Rattle.recover_run.specs.Gathering.{is_of, is_counted}
 use Rattle.recover_run.specs.Items.{items_of, ids_of, with_first, item_with}
 use Rattle.cloud_facts.specs.Book.Messages.{IsLogMessage}
-use Rattle.cloud_facts.specs.Book.Tally.{Store}
 
 -- an item is a message that was sent
 abbrev pub IsSent : List Posted → AtomicItem → Type 0

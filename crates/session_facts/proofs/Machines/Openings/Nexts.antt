@@ -3,22 +3,18 @@ use Rattle.std.proofs.Common.{◌≡◌, ◌-◌, ◌^◌, ◌≤◌, ◌==◌, 
 use Rattle.std.specs.Prelude.{unwrap_or}
 use Rattle.std.specs.List.{AllByRecursion}
 use Rattle.cloud_facts.proofs.Calls.Heads.{head_at}
-use Rattle.cloud_trait.specs.Claim.{Claim}
-use Rattle.db_base.specs.Ids.{IsClient}
+use Rattle.cloud_facts.specs.Words.{IsClient, Trouble, AtomicRec, Head, Claim, Store, at, StandsAt}
 use Rattle.db_base.specs.declared.names.Lock.TheVariants as lock
-use Rattle.db_base.specs.declared.trouble.Trouble.{Trouble}
 use Rattle.db_base.specs.declared.trouble.Trouble.TheVariants as trouble
 use Rattle.db_base.specs.declared.trouble.Counter.TheVariants as counter
 use Rattle.head_codec.specs.Head.{empty_head}
 use Rattle.head_codec.specs.Spelling.{head_of}
-use Rattle.head_codec.specs.declared.head.Head.{Head}
 use Rattle.head_codec.specs.declared.head.Phase.{Phase}
 use Rattle.head_codec.specs.declared.head.Phase.TheVariants.{Settled, Open}
 use Rattle.cloud_facts.specs.Homes.Homes.{Part, Parts, Away, Opens, IsAlone, HomesHold}
 use Rattle.cloud_facts.proofs.Homes.HomeLemmas.{away_keeps, reads_keeps, part_again}
 use Rattle.cloud_facts.specs.Lefts.Left.{HasWay, Leaves}
 use Rattle.cloud_facts.proofs.Lefts.Ways.{of_ways}
-use Rattle.log_codec.specs.declared.record.AtomicRec.{AtomicRec}
 use Rattle.cloud_facts.proofs.Numbers.Lists.{filter_there}
 use Rattle.cloud_facts.proofs.Numbers.Ways.{is_way, way_epoch, way_txn}
 use Rattle.session_facts.specs.Machines.Openings.Knows.{HasFormer, HasLease, IsCommitted, IsWanted, HasRead, HasSifted, opening_with, MayStopOpening, EndsWell, KnowsNext}
@@ -35,8 +31,7 @@ use Rattle.recover_run.specs.Meaning.{head_behind}
 use Rattle.recover_run.specs.Recovery.{Recovery, Step, releasing, old_released, taken_by, ended, behind, phase_read, head_read, bytes_read, none_read, got_by}
 use Rattle.recover_run.proofs.KeptRecords.{pending_none}
 use Rattle.recover_run.proofs.Knows.{IsRising}
-use Rattle.cloud_facts.specs.Book.Records.{StandsAt, is_under_way, under_way}
-use Rattle.cloud_facts.specs.Book.Tally.{Store, at}
+use Rattle.cloud_facts.specs.Book.Records.{is_under_way, under_way}
 
 -- a step leads to a part that is known, and that stands beside those of the other sessions
 pub record LeadsToPart (session : ℕ) (parts : Parts) (u : Store) (now : ℕ) (step : Step) : Type 0 where

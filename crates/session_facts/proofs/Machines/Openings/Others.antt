@@ -5,12 +5,10 @@ use Rattle.cloud_facts.specs.Calls.Acting.{KnowsHome, HasLeaseOf, of_option}
 use Rattle.cloud_facts.specs.Calls.Others.{Others, Passes, WasSentOn}
 use Rattle.cloud_facts.proofs.Calls.Copies.{copied_stays, log_stays}
 use Rattle.cloud_facts.proofs.Calls.OthersLemmas.{in_option, pruned_stays}
-use Rattle.cloud_trait.specs.Claim.{Claim, Lasts}
+use Rattle.cloud_facts.specs.Words.{AtomicRec, Head, Claim, Lasts, Store, IsIn}
 use Rattle.db_base.specs.declared.names.Lock.TheVariants as lock
-use Rattle.head_codec.specs.declared.head.Head.{Head}
 use Rattle.cloud_facts.specs.Homes.Homes.{Part, Away}
 use Rattle.cloud_facts.specs.Lefts.Left.{IsCopied}
-use Rattle.log_codec.specs.declared.record.AtomicRec.{AtomicRec}
 use Rattle.session_facts.specs.Machines.Openings.Client.{KnowsClient}
 use Rattle.session_facts.specs.Machines.Openings.Knows.{leases_of_recovery, IsCommitted, IsWanted, IsMessageThat, HasRead, Gathers, SendsOn, HasSifted, HasPut, KnowsOpeningAt, KnowsOpening}
 use Rattle.session_facts.proofs.Machines.Openings.Kept.{each_in}
@@ -25,8 +23,6 @@ use Rattle.recover_run.specs.Recovery.{Recovery}
 use Rattle.recover_run.proofs.KeptRecords.{all_so}
 use Rattle.cloud_facts.specs.Book.Growth.{Grows}
 use Rattle.cloud_facts.specs.Book.Messages.{IsDeleted}
-use Rattle.cloud_facts.specs.Book.Records.{IsIn}
-use Rattle.cloud_facts.specs.Book.Tally.{Store}
 use Rattle.cloud_facts.proofs.Book.Places.{in_front, in_behind}
 use Rattle.session_facts.proofs.Machines.Openings.Counted.{counted_stay}
 use Rattle.session_facts.proofs.Machines.Openings.Entries.{records_stay}

@@ -4,25 +4,16 @@ use Rattle.std.specs.Prelude.{slice_get, All}
 use Rattle.std.specs.List.{AllByRecursion}
 use Rattle.std.proofs.lemmas.List.Elements.{recursion_from_All}
 use Rattle.cloud_facts.specs.Calls.Acting.{Setting, Outcome}
-use Rattle.cloud_facts.specs.Calls.Call.{IsCall}
+use Rattle.cloud_facts.specs.Words.{IsClient, ObjName, QueueName, Lock, Entry, Answer, CloudState, newest, Caller, Claim, Lasts, Ask, GetHeld, PutHeld, Send, Receive, Delete, Take, Release, got_of, given_of, received_of, Book, Store, at, store_of, IsCall}
 use Rattle.cloud_facts.proofs.Calls.Heads.{head_at, newest_head, held_seen}
 use Rattle.cloud_facts.proofs.Calls.Outcomes.{quiet}
-use Rattle.cloud_trait.specs.declared.answer.Answer.{Answer}
 use Rattle.cloud_trait.specs.declared.answer.Answer.TheVariants.{Got, Received, Given}
 use Rattle.cloud_trait.specs.declared.message.Message.{Message}
-use Rattle.cloud_trait.specs.Ask.{Ask, GetHeld, PutHeld, Send, Receive, Delete, Take, Release, PutsNothing, TouchesNoMessage}
-use Rattle.cloud_trait.specs.Caller.{Caller}
-use Rattle.cloud_trait.specs.Claim.{Claim, Lasts}
+use Rattle.cloud_trait.specs.Ask.{PutsNothing, TouchesNoMessage}
 use Rattle.cloud_trait.specs.Delivery.{WasSent}
-use Rattle.cloud_trait.specs.State.{CloudState, newest}
-use Rattle.cloud_trait.specs.Views.{given_of, got_of, received_of}
 use Rattle.cloud_trait.specs.Weather.{Fits}
-use Rattle.db_base.specs.Ids.{IsClient}
-use Rattle.db_base.specs.declared.names.Lock.{Lock}
 use Rattle.db_base.specs.declared.names.Lock.TheVariants as lock
-use Rattle.db_base.specs.declared.names.ObjName.{ObjName}
 use Rattle.db_base.specs.declared.names.ObjName.TheVariants as object
-use Rattle.db_base.specs.declared.names.QueueName.{QueueName}
 use Rattle.db_base.specs.declared.names.QueueName.TheVariants as queue
 use Rattle.cloud_facts.specs.Homes.Homes.{Part, Parts, Away, IsAlone, HomesHold}
 use Rattle.cloud_facts.proofs.Homes.HomeLemmas.{keeps_part, away_keeps}
@@ -38,10 +29,6 @@ use Rattle.recover_run.specs.declared.stage.Stage.{Stage}
 use Rattle.recover_run.specs.declared.stage.Stage.TheVariants.{ReleasingOld, Taking, Getting, Receiving, Deleting, Sending, Putting, Clearing, Sweeping, Releasing, Finished}
 use Rattle.recover_run.specs.Gathering.{nothing_gathered, is_past}
 use Rattle.recover_run.specs.Recovery.{Recovery, recovery_ask, ask_at, under, delete_next, send_next, recovery_next, next_at, SendsRecord, IsSoundAt, IsSound}
-use Rattle.report_types.specs.declared.entry.Entry.{Entry}
-use Rattle.cloud_facts.specs.Book.Book.{Book}
-use Rattle.cloud_facts.specs.Book.Tally.{Store, at}
-use Rattle.cloud_facts.specs.Tellings.Told.{store_of}
 use Rattle.session_facts.proofs.Machines.Commits.Settled.{queue_is}
 
 -- ---- what an answer shows

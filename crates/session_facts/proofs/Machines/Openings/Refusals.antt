@@ -1,22 +1,18 @@
 -- Why an answer stops an opening: a call failed, came too late or ran out of memory, and the lease may be held. No head and no message is damaged.
 use Rattle.std.proofs.Common.{◌≡◌, ℕ, List, [], ◌∷◌, map, Option, Some, None, Result, Ok, Err, refl, subst, ◌∙◌}
 use Rattle.std.specs.List.{AllByRecursion}
-use Rattle.cloud_trait.specs.declared.answer.Answer.{Answer}
+use Rattle.cloud_facts.specs.Words.{Trouble, Lock, AtomicRec, Answer, CloudState, newest, done_of, got_of, given_of, received_of, sent_of}
 use Rattle.cloud_trait.specs.declared.answer.Answer.TheVariants.{Got, Sent, Received, Listed, Done, Given, Held, Renewed, Late, Failed, Memory}
 use Rattle.cloud_trait.specs.declared.message.Message.{Message}
 use Rattle.cloud_trait.specs.Delivery.{WasSent}
-use Rattle.cloud_trait.specs.State.{CloudState, newest}
-use Rattle.cloud_trait.specs.Views.{trouble_of, given_of, got_of, sent_of, received_of, done_of}
-use Rattle.db_base.specs.declared.names.Lock.{Lock}
+use Rattle.cloud_trait.specs.Views.{trouble_of}
 use Rattle.db_base.specs.declared.names.ObjName.TheVariants as object
 use Rattle.db_base.specs.declared.names.QueueName.TheVariants as queue
-use Rattle.db_base.specs.declared.trouble.Trouble.{Trouble}
 use Rattle.db_base.specs.declared.trouble.Trouble.TheVariants as trouble
 use Rattle.cloud_facts.specs.Decoding.Decodes.{Decodes}
 use Rattle.cloud_facts.proofs.Decoding.Values.{newest_head_decodes, message_decodes}
 use Rattle.head_codec.specs.Head.{empty_head}
 use Rattle.log_codec.specs.Atomic.{atomic_of}
-use Rattle.log_codec.specs.declared.record.AtomicRec.{AtomicRec}
 use Rattle.session_facts.specs.Machines.Openings.Knows.{MayStopOpening}
 use Rattle.session_facts.proofs.Machines.Openings.Gathered.{AllRead}
 use Rattle.session_facts.proofs.Machines.Openings.Nexts.{ReadsHead}

@@ -7,10 +7,7 @@ use Rattle.std.proofs.lemmas.List.{take_all}
 use Rattle.cloud_facts.specs.Calls.Others.{WasSentOn}
 use Rattle.cloud_facts.specs.Copies.Copies.{IsSentOn, SendsInTurn}
 use Rattle.cloud_facts.proofs.Copies.Turns.{sends_in_turn}
-use Rattle.cloud_trait.specs.Caller.{Caller}
-use Rattle.cloud_trait.specs.Claim.{Claim}
-use Rattle.db_base.specs.Ids.{IsClient}
-use Rattle.head_codec.specs.declared.head.Head.{Head}
+use Rattle.cloud_facts.specs.Words.{IsClient, AtomicRec, Head, Caller, Claim, Store, IsIn, StandsAt}
 use Rattle.head_codec.specs.declared.head.Phase.{Phase}
 use Rattle.head_codec.specs.declared.head.Phase.TheVariants.{Settled, Open}
 use Rattle.head_codec.specs.declared.lists.Pending.{Pending}
@@ -19,7 +16,6 @@ use Rattle.cloud_facts.specs.Landings.Landing.{sent_by}
 use Rattle.cloud_facts.specs.Lefts.Left.{IsCopied, HasWay, Leaves}
 use Rattle.cloud_facts.proofs.Lefts.MessageLemmas.{copy_of_waits}
 use Rattle.log_codec.specs.Pu.{pu_of}
-use Rattle.log_codec.specs.declared.record.AtomicRec.{AtomicRec}
 use Rattle.cloud_facts.proofs.Numbers.Lists.{filter_at, map_there, map_at, get_same}
 use Rattle.cloud_facts.proofs.Numbers.Ways.{is_way, settled_way, open_way, way_epoch}
 use Rattle.session_facts.specs.Machines.Openings.Knows.{IsWanted, SendsOn}
@@ -34,8 +30,7 @@ use Rattle.route_plan.specs.Queue.{number_of_queue}
 use Rattle.route_plan.specs.Record.{pu_record_of, pending_of}
 use Rattle.cloud_facts.specs.Book.Effects.{after_posted}
 use Rattle.cloud_facts.specs.Book.Premises.{Settles, Posts}
-use Rattle.cloud_facts.specs.Book.Records.{StandsAt, IsIn, IsUnderWay, is_under_way, under_way}
-use Rattle.cloud_facts.specs.Book.Tally.{Store}
+use Rattle.cloud_facts.specs.Book.Records.{IsUnderWay, is_under_way, under_way}
 use Rattle.cloud_facts.proofs.Book.Places.{get_within, in_either, in_front, in_behind}
 use Rattle.session_facts.proofs.Machines.Commits.Settled.{posted_waits}
 

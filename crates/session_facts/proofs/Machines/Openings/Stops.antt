@@ -1,16 +1,13 @@
 -- Why an opening stops: once its lease is given back, for the trouble that was in hand, or at its take.
 use Rattle.std.proofs.Common.{◌≡◌, ℕ, subst}
-use Rattle.cloud_trait.specs.declared.answer.Answer.{Answer}
-use Rattle.cloud_trait.specs.Machine.{Goes, Ends, Stops}
+use Rattle.cloud_facts.specs.Words.{Trouble, Answer, Goes, Ends, Stops, Store}
 use Rattle.db_base.specs.declared.names.Lock.TheVariants as lock
-use Rattle.db_base.specs.declared.trouble.Trouble.{Trouble}
 use Rattle.cloud_facts.specs.Homes.Homes.{Part}
 use Rattle.session_facts.specs.Machines.Openings.Knows.{MayStopOpening, MayEnd, KnowsOpeningAt, KnowsOpening}
 use Rattle.session_facts.proofs.Machines.Openings.Refusals.{given_may}
 use Rattle.session_facts.proofs.Machines.Openings.Turns.{Turns, turns_to}
 use Rattle.session_facts.proofs.Machines.Openings.Turns as turn
 use Rattle.recover_run.specs.Recovery.{Recovery, Step, recovery_next}
-use Rattle.cloud_facts.specs.Book.Tally.{Store}
 
 -- a step that stops does so for such a trouble
 abbrev MayNext : Step → Type 0

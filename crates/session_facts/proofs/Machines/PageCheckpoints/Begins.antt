@@ -1,9 +1,8 @@
 -- A page checkpoint at its begin.
 use Rattle.std.proofs.Common.{inr, ℕ, None, Some, refl, ◌≡◌}
-use Rattle.db_base.specs.Ids.{IsTree, IsPage}
-use Rattle.db_base.specs.declared.trouble.Trouble.{Trouble}
+use Rattle.cloud_facts.specs.Words.{IsTree, Trouble, Store}
+use Rattle.db_base.specs.Ids.{IsPage}
 use Rattle.page_ckpt.specs.Paging.{new_paging}
-use Rattle.cloud_facts.specs.Book.Tally.{Store}
 use Rattle.session_facts.specs.Machines.PageCheckpoints.Knows.{MayStopPage, KnowsPaging}
 
 -- it knows nothing but its tree and page

@@ -3,16 +3,14 @@ use Rattle.std.proofs.Common.{◌≤◌, inl, inr, ℕ, List, sym, ap, subst, �
 use Rattle.byte_format.specs.Order.{bytes_below}
 use Rattle.cloud_facts.specs.Chains.Chain.{AreLevels, AreVersions}
 use Rattle.db_base.specs.Change.{key_of}
-use Rattle.leaf_view.specs.Leaf.{Leaf}
-use Rattle.log_codec.specs.declared.record.PuItem.{PuItem}
+use Rattle.cloud_facts.specs.Words.{PuItem, Leaf, Store, IsIn}
 use Rattle.log_codec.specs.declared.record.PuRec.{PuRec}
 use Rattle.cloud_facts.specs.Numbers.Numbers.{Numbers}
 use Rattle.run_cursor.specs.Run.{Taken}
 use Rattle.session_facts.proofs.Machines.Runs.Taken.{run_in}
 use Rattle.session_facts.specs.Machines.Runs.Knows.{TookRun}
 use Rattle.cloud_facts.specs.Book.Premises.{IsItemOf, IsRouted, IsLeafAtMost}
-use Rattle.cloud_facts.specs.Book.Records.{IsIn, key_in}
-use Rattle.cloud_facts.specs.Book.Tally.{Store}
+use Rattle.cloud_facts.specs.Book.Records.{key_in}
 use Rattle.session_facts.specs.Machines.PageCheckpoints.Rights.{IsLanded, HasRun}
 use Rattle.session_facts.proofs.Machines.PageCheckpoints.Fences.{HasFences, landed_fences}
 

@@ -7,27 +7,15 @@ use Rattle.ckpt_parts.specs.Deleting.{Deleting, next_id, tried, tried_of}
 use Rattle.ckpt_parts.specs.Intakes.{items_of}
 use Rattle.ckpt_parts.specs.Leaves.{absent_leaf, bad_fence, fenced, HoldsLeaf, HoldsLinked}
 use Rattle.ckpt_parts.specs.declared.leases.Leases.{Leases}
-use Rattle.cloud_trait.specs.declared.answer.Answer.{Answer}
+use Rattle.cloud_facts.specs.Words.{Trouble, Leaf, Answer, CloudState, called, Caller, Seen, Claim, Ask, GetHeld, Delete, Goes, Ends, Stops, done_of, Store, Leafy, IsIn, nodes_of}
 use Rattle.cloud_trait.specs.declared.answer.Answer.TheVariants.{Memory}
 use Rattle.cloud_trait.specs.declared.answer.Answer.TheVariants as call
 use Rattle.cloud_trait.specs.declared.turn.CkptAnswer.{CkptAnswer}
-use Rattle.cloud_trait.specs.Ask.{Ask, GetHeld, Delete}
-use Rattle.cloud_trait.specs.Caller.{Caller}
-use Rattle.cloud_trait.specs.Claim.{Claim}
-use Rattle.cloud_trait.specs.Machine.{Goes, Ends, Stops}
-use Rattle.cloud_trait.specs.Seen.{Seen}
-use Rattle.cloud_trait.specs.State.{CloudState, called}
-use Rattle.cloud_trait.specs.Views.{done_of}
 use Rattle.cloud_trait.specs.Weather.{Makes, Rose}
-use Rattle.cloud_facts.specs.Book.Records.{IsIn}
-use Rattle.cloud_facts.specs.Book.Tally.{Leafy, Store}
-use Rattle.cloud_facts.specs.Book.Telling.{nodes_of}
 use Rattle.db_base.specs.declared.names.Lock.TheVariants as lock
 use Rattle.db_base.specs.declared.trouble.Counter.TheVariants as counter
 use Rattle.db_base.specs.declared.trouble.Counter.{Counter}
-use Rattle.db_base.specs.declared.trouble.Trouble.{Trouble}
 use Rattle.db_base.specs.declared.trouble.Trouble.TheVariants as trouble
-use Rattle.leaf_view.specs.Leaf.{Leaf}
 use Rattle.leaf_view.specs.Lookup.{empty_leaf}
 use Rattle.page_ckpt.specs.Causes.{greatest_number}
 use Rattle.page_ckpt.specs.Paging.{Paging, Step, ask_at, paging_ask, take_home, home_name, right_name, own_queue, delete_next, HoldsNamed, went, PagingLeads}

@@ -10,14 +10,10 @@ use Rattle.cloud_facts.specs.Chains.Links.{first_link}
 use Rattle.cloud_facts.proofs.Chains.Newest.{last_in}
 use Rattle.cloud_facts.proofs.Chains.Pieces.{not_itself}
 use Rattle.db_base.specs.Change.{key_of}
-use Rattle.leaf_view.specs.Leaf.{Leaf}
+use Rattle.cloud_facts.specs.Words.{PuItem, Leaf, Link, Node, Leafy, IsIn}
 use Rattle.leaf_view.specs.Lookup.{empty_leaf, page_at}
-use Rattle.log_codec.specs.declared.record.PuItem.{PuItem}
 use Rattle.node_codec.proofs.EntryLemmas.{above, below_chain}
 use Rattle.page_ckpt.specs.Paging.{reaches_beyond, link_by, link_of}
-use Rattle.cloud_facts.specs.Book.Book.{Link}
-use Rattle.cloud_facts.specs.Book.Records.{IsIn}
-use Rattle.cloud_facts.specs.Book.Tally.{Node, Leafy}
 use Rattle.cloud_facts.specs.Book.Telling.{last_or, leaf_in}
 use Rattle.cloud_facts.proofs.Book.Places.{in_either, in_none}
 use Rattle.session_facts.specs.Machines.PageCheckpoints.Rights.{IsLanded, IsNewestLeaf, IsUptoLink, RunLeads}

@@ -4,18 +4,10 @@ use Rattle.ckpt_parts.specs.Deleting.{next_id}
 use Rattle.ckpt_parts.specs.Leasing.{claims_of, outstanding_after}
 use Rattle.ckpt_parts.specs.declared.leases.Leases.{Leases}
 use Rattle.cloud_facts.specs.Calls.Acting.{Setting, Handles}
-use Rattle.cloud_facts.specs.Calls.Call.{IsCall}
-use Rattle.cloud_facts.specs.Calls.Standing.{StandsUnder}
+use Rattle.cloud_facts.specs.Words.{IsTree, Entry, Answer, CloudState, Caller, Claim, Ask, GetHeld, PutHeld, Receive, Delete, Release, Goes, Ends, Stops, Book, Link, IsIn, nodes_of, store_of, IsCall, StandsUnder}
 use Rattle.cloud_facts.specs.Calls.Pages.{IsLeafPage}
 use Rattle.cloud_facts.proofs.Calls.Firsts.{chain_leaf}
 use Rattle.cloud_facts.proofs.Calls.Guarding.{leaf_guard}
-use Rattle.cloud_trait.specs.Ask.{Ask, GetHeld, PutHeld, Receive, Delete, Release}
-use Rattle.cloud_trait.specs.Caller.{Caller}
-use Rattle.cloud_trait.specs.Claim.{Claim}
-use Rattle.cloud_trait.specs.Machine.{Goes, Ends, Stops}
-use Rattle.cloud_trait.specs.State.{CloudState}
-use Rattle.cloud_trait.specs.declared.answer.Answer.{Answer}
-use Rattle.db_base.specs.Ids.{IsTree}
 use Rattle.db_base.specs.declared.names.Lock.TheVariants as lock
 use Rattle.db_base.specs.declared.names.ObjName.TheVariants as object
 use Rattle.cloud_facts.specs.Leases.Guards.{guard}
@@ -24,12 +16,8 @@ use Rattle.page_ckpt.specs.Paging.{Paging, Step, ask_at, paging_ask, delete_next
 use Rattle.page_ckpt.proofs.Outcomes.{comes}
 use Rattle.page_ckpt.specs.declared.stage.Stage.{Stage}
 use Rattle.page_ckpt.specs.declared.stage.Stage.TheVariants.{TakingHome, GettingHome, Receiving, TakingRight, GettingRight, PuttingRight, ReleasingRight, PuttingHome, Deleting as DeletingNext, Releasing, Finished}
-use Rattle.report_types.specs.declared.entry.Entry.{Entry}
-use Rattle.cloud_facts.specs.Book.Book.{Book, Link}
-use Rattle.cloud_facts.specs.Book.Records.{IsIn}
-use Rattle.cloud_facts.specs.Book.Telling.{nodes_of, gone_of}
+use Rattle.cloud_facts.specs.Book.Telling.{gone_of}
 use Rattle.cloud_facts.proofs.Chains.GoneLemmas.{links_kept}
-use Rattle.cloud_facts.specs.Tellings.Told.{store_of}
 use Rattle.cloud_facts.proofs.Book.Places.{get_single, in_either, in_none}
 use Rattle.session_facts.proofs.Machines.BesideHome.{AreLeft, hand, apart_from}
 use Rattle.session_facts.specs.Machines.PageCheckpoints.Knows.{HoldsRight, KnowsPagingAt, KnowsPaging, leases_of_paging, leases_next}

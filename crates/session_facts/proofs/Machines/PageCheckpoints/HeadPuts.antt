@@ -2,9 +2,7 @@
 use Rattle.std.proofs.Common.{◌≡◌, ℕ, Bool, true, false, List, Option, Some, None, refl, sym, ap, ◌∙◌}
 use Rattle.ckpt_parts.specs.Deleting.{next_id}
 use Rattle.ckpt_parts.specs.Leasing.{newest_lease}
-use Rattle.cloud_trait.specs.Ask.{Ask, GetHeld, PutHeld, Release}
-use Rattle.cloud_trait.specs.Claim.{Claim}
-use Rattle.db_base.specs.declared.names.ObjName.{ObjName}
+use Rattle.cloud_facts.specs.Words.{ObjName, Claim, Ask, GetHeld, PutHeld, Release}
 use Rattle.db_base.specs.declared.names.ObjName.TheVariants as object
 use Rattle.page_ckpt.specs.Paging.{Paging, ask_at, paging_ask, under, delete_next, home_name, right_name}
 use Rattle.page_ckpt.specs.declared.stage.Stage.{Stage}

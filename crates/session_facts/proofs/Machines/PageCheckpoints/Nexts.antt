@@ -12,25 +12,18 @@ use Rattle.ckpt_parts.specs.Leasing.{without_newest}
 use Rattle.ckpt_parts.specs.Leaves.{HoldsLinked}
 use Rattle.ckpt_parts.specs.declared.intake.Intake.{Intake}
 use Rattle.ckpt_parts.specs.declared.leases.Leases.{Leases}
-use Rattle.cloud_trait.specs.Claim.{Claim}
+use Rattle.cloud_facts.specs.Words.{IsClient, IsTree, Trouble, QueueName, Lock, PuItem, Leaf, Answer, Claim, Goes, Ends, Stops, done_of, got_of, given_of, received_of, Link, Store, Node, IsIn}
 use Rattle.cloud_trait.specs.Delivery.{WasSent}
-use Rattle.cloud_trait.specs.Machine.{Goes, Ends, Stops}
-use Rattle.cloud_trait.specs.Views.{trouble_of, given_of, got_of, received_of, done_of}
-use Rattle.cloud_trait.specs.declared.answer.Answer.{Answer}
+use Rattle.cloud_trait.specs.Views.{trouble_of}
 use Rattle.cloud_trait.specs.declared.answer.Answer.TheVariants.{Got, Sent, Received, Listed, Done, Given, Held, Renewed, Late, Failed, Memory}
 use Rattle.cloud_trait.specs.declared.message.Message.{Message}
 use Rattle.db_base.specs.Change.{key_of}
 use Rattle.db_base.specs.Cursor.{number_of}
-use Rattle.db_base.specs.Ids.{IsClient, IsTree, IsPage}
-use Rattle.db_base.specs.declared.names.Lock.{Lock}
+use Rattle.db_base.specs.Ids.{IsPage}
 use Rattle.db_base.specs.declared.names.Lock.TheVariants as lock
-use Rattle.db_base.specs.declared.names.QueueName.{QueueName}
-use Rattle.db_base.specs.declared.trouble.Trouble.{Trouble}
 use Rattle.db_base.specs.declared.trouble.Trouble.TheVariants as trouble
 use Rattle.leaf_edit.specs.Lacked.{lacked}
-use Rattle.leaf_view.specs.Leaf.{Leaf}
 use Rattle.leaf_view.specs.Lookup.{holds, number_of as done_number}
-use Rattle.log_codec.specs.declared.record.PuItem.{PuItem}
 use Rattle.cloud_facts.specs.Numbers.Numbers.{Numbers}
 use Rattle.page_ckpt.proofs.Calm.{NextRests}
 use Rattle.page_ckpt.proofs.Outcomes.{leased, AreRead, Onward, Clears, Fails, Comes}
@@ -44,9 +37,6 @@ use Rattle.session_facts.proofs.Machines.Runs.Marks.{covered_more}
 use Rattle.session_facts.proofs.Machines.Runs.Received.{each_in, items_sent, item_of, item_client, ids_covered, none_damaged}
 use Rattle.session_facts.proofs.Machines.Runs.Taken.{run_in, empty_top}
 use Rattle.session_facts.specs.Machines.Runs.Knows.{IsSentItem, TookRun, MayDelete}
-use Rattle.cloud_facts.specs.Book.Book.{Link}
-use Rattle.cloud_facts.specs.Book.Records.{IsIn}
-use Rattle.cloud_facts.specs.Book.Tally.{Node, Store}
 use Rattle.cloud_facts.specs.Book.Telling.{leaf_in, newest_leaf}
 use Rattle.session_facts.specs.Machines.PageCheckpoints.Knows.{HoldsPage, HoldsRight, HasPage, HasRight, HasLeases, MayStopPage, ReadHome, ComesOn, TroubleWaits, KnowsPagingAt, KnowsNext}
 use Rattle.session_facts.specs.Machines.PageCheckpoints.Rights.{IsLanded, IsNewestLeaf, ReadLeaf, HasRun, IsDone, AreDone, IsUptoLink, RunLeads, LeavesRight}

@@ -4,24 +4,18 @@ use Rattle.ckpt_parts.specs.Leasing.{claims_of}
 use Rattle.ckpt_parts.specs.declared.leases.Leases.{Leases}
 use Rattle.cloud_facts.specs.Calls.Others.{Others}
 use Rattle.cloud_facts.proofs.Calls.Guarding.{others_itself}
-use Rattle.cloud_trait.specs.Claim.{Claim, Lasts}
+use Rattle.cloud_facts.specs.Words.{IsClient, PuItem, Leaf, Claim, Lasts, Link, Store, Node, Leafy, IsIn}
 use Rattle.cloud_trait.specs.Growth.{BeginsWith}
 use Rattle.db_base.specs.Change.{key_of}
-use Rattle.db_base.specs.Ids.{IsClient}
 use Rattle.db_base.specs.declared.names.Lock.TheVariants as lock
-use Rattle.leaf_view.specs.Leaf.{Leaf}
 use Rattle.leaf_view.specs.Lookup.{empty_leaf}
-use Rattle.log_codec.specs.declared.record.PuItem.{PuItem}
 use Rattle.page_ckpt.specs.Paging.{Paging}
 use Rattle.page_ckpt.specs.declared.link.Link.{Link as Found}
 use Rattle.page_ckpt.specs.declared.stage.Stage.{Stage}
 use Rattle.page_ckpt.specs.declared.stage.Stage.TheVariants.{TakingHome, GettingHome, Receiving, TakingRight, GettingRight, PuttingRight, ReleasingRight, PuttingHome, Deleting as DeletingNext, Releasing, Finished}
 use Rattle.run_cursor.specs.Run.{Taken}
 use Rattle.session_facts.proofs.Machines.Runs.Marks.{run_stays, delete_stays}
-use Rattle.cloud_facts.specs.Book.Book.{Link}
 use Rattle.cloud_facts.specs.Book.Growth.{Grows}
-use Rattle.cloud_facts.specs.Book.Records.{IsIn}
-use Rattle.cloud_facts.specs.Book.Tally.{Node, Leafy, Store}
 use Rattle.cloud_facts.specs.Book.Telling.{last_or}
 use Rattle.session_facts.specs.Machines.PageCheckpoints.Knows.{HoldsPage, HoldsRight, HasRight, ComesOn, KnowsPagingAt, KnowsPaging, leases_of_paging}
 use Rattle.session_facts.specs.Machines.PageCheckpoints.Rights.{IsLanded, IsNewestLeaf, ReadLeaf, HasRun, AreDone, IsUptoLink, RunLeads, ComesRight, PutsRight, LeavesRight}

@@ -10,57 +10,42 @@ use Rattle.ckpt_parts.specs.Deleting.{next_id}
 use Rattle.ckpt_parts.specs.Leaves.{HoldsLinked}
 use Rattle.ckpt_parts.specs.declared.leases.Leases.{Leases}
 use Rattle.cloud_facts.specs.Calls.Acting.{Setting, Outcome, Aside}
-use Rattle.cloud_facts.specs.Calls.Call.{IsCall}
+use Rattle.cloud_facts.specs.Words.{Trouble, QueueName, Lock, Entry, PuItem, Leaf, Answer, CloudState, called, Caller, Claim, Ask, GetHeld, PutHeld, Receive, Delete, Take, Release, Stops, done_of, got_of, Book, Link, Store, Leafy, at, IsIn, nodes_of, roots_of, store_of, IsCall}
 use Rattle.cloud_facts.specs.Calls.Looks.{audit_of}
 use Rattle.cloud_facts.proofs.Calls.Calls.{landed_or_not, permitted, put_cases, put_lasts}
 use Rattle.cloud_facts.proofs.Calls.Heads.{held_seen}
 use Rattle.cloud_facts.proofs.Calls.Outcomes.{stays, put_landed, other_landed, quiet}
 use Rattle.cloud_facts.proofs.Calls.Passing.{landing_passes}
-use Rattle.cloud_trait.specs.Ask.{Ask, GetHeld, PutHeld, Receive, Delete, Take, Release, Lands, PutsNothing, TouchesNoMessage}
-use Rattle.cloud_trait.specs.Caller.{Caller}
-use Rattle.cloud_trait.specs.Claim.{Claim}
+use Rattle.cloud_trait.specs.Ask.{Lands, PutsNothing, TouchesNoMessage}
 use Rattle.cloud_trait.specs.Delivery.{WasSent}
-use Rattle.cloud_trait.specs.Machine.{Stops}
-use Rattle.cloud_trait.specs.State.{CloudState, called}
-use Rattle.cloud_trait.specs.Views.{got_of, done_of}
-use Rattle.cloud_trait.specs.declared.answer.Answer.{Answer}
 use Rattle.cloud_trait.specs.declared.answer.Answer.TheVariants.{Got, Received, Done, Given}
 use Rattle.cloud_trait.specs.declared.message.Message.{Message}
 use Rattle.db_base.specs.Change.{key_of}
 use Rattle.db_base.specs.Cursor.{number_of}
-use Rattle.db_base.specs.declared.names.Lock.{Lock}
 use Rattle.db_base.specs.declared.names.Lock.TheVariants as lock
 use Rattle.db_base.specs.declared.names.ObjName.TheVariants as object
-use Rattle.db_base.specs.declared.names.QueueName.{QueueName}
 use Rattle.db_base.specs.declared.names.QueueName.TheVariants as queue
-use Rattle.db_base.specs.declared.trouble.Trouble.{Trouble}
 use Rattle.history.specs.Audited.{applied_entry}
 use Rattle.cloud_facts.specs.Homes.Homes.{Part, Parts, HomesHold}
 use Rattle.cloud_facts.proofs.Homes.HomeLemmas.{aside_keeps, keeps_part}
 use Rattle.cloud_facts.specs.Landings.Landing.{Landing, marks_post, puts_leaf}
 use Rattle.leaf_edit.specs.Applied.{applied}
 use Rattle.leaf_edit.specs.Lacked.{lacked}
-use Rattle.leaf_view.specs.Leaf.{Leaf, IsLeaf}
+use Rattle.leaf_view.specs.Leaf.{IsLeaf}
 use Rattle.leaf_view.specs.Lookup.{holds}
-use Rattle.log_codec.specs.declared.record.PuItem.{PuItem}
 use Rattle.page_ckpt.proofs.Calm.{step_rests}
 use Rattle.page_ckpt.proofs.Outcomes.{comes}
 use Rattle.page_ckpt.specs.Paging.{Paging, Step, ask_at, paging_ask, delete_next, take_home, take_right, home_name, right_name, HoldsNamed, PagingLeads}
 use Rattle.page_ckpt.specs.declared.stage.Stage.{Stage}
 use Rattle.page_ckpt.specs.declared.stage.Stage.TheVariants.{TakingHome, GettingHome, Receiving, TakingRight, GettingRight, PuttingRight, ReleasingRight, PuttingHome, Deleting as DeletingNext, Releasing, Finished}
-use Rattle.report_types.specs.declared.entry.Entry.{Entry}
 use Rattle.session_facts.proofs.Machines.Runs.Leaves.{own_cursor, own_queue}
 use Rattle.session_facts.proofs.Machines.Runs.Marks.{covered_stays, covered_more, delete_stays, may_mark}
 use Rattle.session_facts.proofs.Machines.Runs.Takes.{taken, is_taken, leaf_lands, takes, lacking_is, nothing_lacked, run_applied, cursor_upto}
 use Rattle.session_facts.specs.Machines.Runs.Knows.{TookRun, MayDelete}
-use Rattle.cloud_facts.specs.Book.Book.{Book, Link}
 use Rattle.cloud_facts.specs.Book.Effects.{Taking, after_leaf, after_post_mark}
 use Rattle.cloud_facts.specs.Book.Growth.{Grows}
-use Rattle.cloud_facts.specs.Book.Records.{IsIn}
-use Rattle.cloud_facts.specs.Book.Tally.{Leafy, Store, at}
-use Rattle.cloud_facts.specs.Book.Telling.{leaf_in, queue_of, nodes_of, roots_of, newest_leaf, newest_root}
+use Rattle.cloud_facts.specs.Book.Telling.{leaf_in, queue_of, newest_leaf, newest_root}
 use Rattle.cloud_facts.specs.Tellings.Taking.{IsLinked}
-use Rattle.cloud_facts.specs.Tellings.Told.{store_of}
 use Rattle.cloud_facts.proofs.Tellings.Names.{at2_beside}
 use Rattle.session_facts.specs.Machines.PageCheckpoints.Knows.{HasPage, HasRight, MayStopPage, ComesOn, KnowsPagingAt, KnowsPaging, KnowsAfter, paging_note}
 use Rattle.session_facts.specs.Machines.PageCheckpoints.Rights.{IsNewestLeaf, IsDone, AreDone, PutsRight, LeavesRight, PutsHome}

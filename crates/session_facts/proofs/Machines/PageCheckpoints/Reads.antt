@@ -8,32 +8,24 @@ use Rattle.cloud_facts.specs.Chains.Chain.{IsChained}
 use Rattle.cloud_facts.proofs.Chains.GoneLemmas.{links_kept}
 use Rattle.cloud_facts.specs.Chains.Links.{first_link, newest_node}
 use Rattle.ckpt_parts.specs.Leaves.{bad_fence, fenced, HoldsLeaf, HoldsLinked}
-use Rattle.cloud_facts.specs.Calls.Standing.{StandsUnder}
+use Rattle.cloud_facts.specs.Words.{IsTree, Trouble, Entry, Leaf, Inner, Version, CloudState, newest, Book, Link, Node, Leafy, Branch, IsIn, nodes_of, roots_of, store_of, StandsUnder}
 use Rattle.cloud_facts.proofs.Calls.Firsts.{newest_leafy, chain_leaf}
 use Rattle.cloud_facts.proofs.Calls.Pages.{none_landed, some_landed}
-use Rattle.cloud_trait.specs.State.{CloudState, newest}
-use Rattle.cloud_trait.specs.declared.state.Version.{Version}
-use Rattle.db_base.specs.Ids.{IsTree}
 use Rattle.db_base.specs.declared.names.ObjName.TheVariants as object
-use Rattle.db_base.specs.declared.trouble.Trouble.{Trouble}
 use Rattle.db_base.specs.declared.trouble.Trouble.TheVariants as trouble
 use Rattle.cloud_facts.specs.Decoding.Kinds.{IsNode}
 use Rattle.cloud_facts.proofs.Decoding.Newest.{newest_last}
 use Rattle.cloud_facts.proofs.Decoding.Reading.{node_reads}
 use Rattle.cloud_facts.proofs.Decoding.Values.{newest_page_decodes}
-use Rattle.leaf_view.specs.Leaf.{Leaf, IsLeaf}
+use Rattle.leaf_view.specs.Leaf.{IsLeaf}
 use Rattle.leaf_view.specs.Lookup.{empty_leaf}
-use Rattle.node_codec.specs.Inner.{Inner, IsInner}
+use Rattle.node_codec.specs.Inner.{IsInner}
 use Rattle.page_ckpt.specs.Paging.{IsNoInner, HoldsNamed}
 use Rattle.ckpt_parts.specs.Leaves.{IsNoLeaf}
-use Rattle.report_types.specs.declared.entry.Entry.{Entry}
 use Rattle.session_facts.proofs.Machines.Runs.Leaves.{absent_page, spelled_page}
-use Rattle.cloud_facts.specs.Book.Book.{Book, Link}
-use Rattle.cloud_facts.specs.Book.Records.{IsIn}
-use Rattle.cloud_facts.specs.Book.Tally.{Node, Leafy, Branch, low_of}
-use Rattle.cloud_facts.specs.Book.Telling.{leaf_in, node_in, nodes_of, gone_of, roots_of, newest_leaf, newest_root}
+use Rattle.cloud_facts.specs.Book.Tally.{low_of}
+use Rattle.cloud_facts.specs.Book.Telling.{leaf_in, node_in, gone_of, newest_leaf, newest_root}
 use Rattle.cloud_facts.proofs.Chains.Newest.{newest_is}
-use Rattle.cloud_facts.specs.Tellings.Told.{store_of}
 use Rattle.session_facts.specs.Machines.PageCheckpoints.Knows.{MayStopPage}
 use Rattle.session_facts.specs.Machines.PageCheckpoints.Rights.{IsNewestLeaf}
 

@@ -1,8 +1,6 @@
 -- A page checkpoint stays with its tree and its page.
 use Rattle.std.proofs.Common.{◌≡◌, Option, refl}
-use Rattle.db_base.specs.declared.trouble.Trouble.{Trouble}
-use Rattle.cloud_trait.specs.declared.answer.Answer.{Answer}
-use Rattle.cloud_trait.specs.Machine.{Goes, Ends, Stops}
+use Rattle.cloud_facts.specs.Words.{Trouble, Answer, Goes, Ends, Stops}
 use Rattle.page_ckpt.specs.declared.link.Link.{Link}
 use Rattle.page_ckpt.specs.Paging.{Paging, Step, PagingLeads}
 use Rattle.page_ckpt.proofs.Outcomes.{Onward, Clears, Fails, Comes, comes}

@@ -3,20 +3,16 @@ use Rattle.std.proofs.Common.{◌≡◌, ◌<◌, ◌≤◌, ◌⊎◌, inl, inr
 use Rattle.std.proofs.lemmas.Bool.{cases_lt}
 use Rattle.db_base.specs.Change.{key_of}
 use Rattle.db_base.specs.Cursor.{number_of}
-use Rattle.db_base.specs.Ids.{IsClient}
-use Rattle.log_codec.specs.declared.record.AtomicRec.{AtomicRec}
-use Rattle.log_codec.specs.declared.record.PuItem.{PuItem}
+use Rattle.cloud_facts.specs.Words.{IsClient, AtomicRec, PuItem, Tree, Store, IsIn}
 use Rattle.node_codec.proofs.SpellingLaws.{number_of-raised}
 use Rattle.node_codec.specs.Node.{raised}
-use Rattle.node_codec.specs.Tree.{Tree}
 use Rattle.cloud_facts.specs.Numbers.Numbers.{Numbers}
 use Rattle.cloud_facts.proofs.Numbers.Known.{record_is}
 use Rattle.cloud_facts.proofs.Numbers.Runs.{item_client, item_number, item_key, item_within}
 use Rattle.run_cursor.specs.Run.{IsRun}
 use Rattle.session_facts.proofs.Machines.Runs.Taken.{run_in, run_has}
 use Rattle.cloud_facts.specs.Book.Premises.{IsItemOf, CoversApplied}
-use Rattle.cloud_facts.specs.Book.Records.{IsIn, key_in, count_of, IsApplied}
-use Rattle.cloud_facts.specs.Book.Tally.{Store}
+use Rattle.cloud_facts.specs.Book.Records.{key_in, count_of, IsApplied}
 
 pub raised_number : (cursor top : List (ℕ × ℕ)) (client : ℕ) → IsClient client → number_of (raised cursor top) client ≡ max (number_of cursor client) (number_of top client)
 raised_number cursor top client is = number_of-raised cursor top client is.some is.most

@@ -7,30 +7,20 @@ use Rattle.cloud_facts.specs.Chains.Chain.{IsUnlinked}
 use Rattle.cloud_facts.specs.Chains.Cuts.{inner_node}
 use Rattle.cloud_facts.specs.Chains.Links.{top_of, newest_node, NodeNames}
 use Rattle.cloud_facts.specs.Calls.Looks.{audit_of}
-use Rattle.cloud_facts.specs.Calls.Standing.{StandsUnder, Follows, Commits}
-use Rattle.cloud_trait.specs.Ask.{PutHeld}
-use Rattle.cloud_trait.specs.Caller.{Caller}
-use Rattle.cloud_trait.specs.Claim.{Claim}
-use Rattle.cloud_trait.specs.Machine.{Goes, Ends, Stops}
-use Rattle.cloud_trait.specs.State.{CloudState}
-use Rattle.db_base.specs.Ids.{IsTree}
-use Rattle.db_base.specs.declared.names.ObjName.{ObjName}
+use Rattle.cloud_facts.specs.Words.{IsTree, ObjName, Entry, Inner, CloudState, Caller, Claim, PutHeld, Goes, Ends, Stops, Book, Store, Node, Leafy, Branch, nodes_of, roots_of, store_of, StandsUnder}
+use Rattle.cloud_facts.specs.Calls.Standing.{Follows, Commits}
 use Rattle.db_base.specs.declared.names.ObjName.TheVariants as object
 use Rattle.cloud_facts.specs.Homes.Homes.{Part as Home}
 use Rattle.cloud_facts.specs.Landings.Landing.{Landing, puts_page}
 use Rattle.cloud_facts.specs.Landings.Landing as landing
 use Rattle.leaf_view.specs.Lookup.{empty_leaf}
-use Rattle.node_codec.specs.Inner.{Inner, IsInner, HasInnerSpelling, inner_bytes}
-use Rattle.report_types.specs.declared.entry.Entry.{Entry}
+use Rattle.node_codec.specs.Inner.{IsInner, HasInnerSpelling, inner_bytes}
 use Rattle.split_plan.specs.declared.put_list.PagePut.{PagePut}
 use Rattle.split_plan.specs.Part.{NodePart, node_of_part}
 use Rattle.split_plan.specs.Plan.{IsNodePart, node_bytes, put_of, on_pages}
-use Rattle.cloud_facts.specs.Book.Book.{Book}
 use Rattle.cloud_facts.specs.Book.Effects.{after_page}
-use Rattle.cloud_facts.specs.Book.Tally.{Node, Leafy, Branch, Store}
-use Rattle.cloud_facts.specs.Book.Telling.{last_or, nodes_of, roots_of}
+use Rattle.cloud_facts.specs.Book.Telling.{last_or}
 use Rattle.cloud_facts.proofs.Tellings.Ready.{branch_first}
-use Rattle.cloud_facts.specs.Tellings.Told.{store_of}
 use Rattle.tree_phases.specs.Placing.{put_next, put_first, has_nothing}
 use Rattle.tree_phases.specs.Reserve.{version_spent}
 use Rattle.tree_phases.specs.declared.rising.Rising.{Rising}

@@ -6,27 +6,19 @@ use Rattle.byte_format.specs.Format.{greatest}
 use Rattle.cloud_facts.specs.Chains.Chain.{IsChained}
 use Rattle.cloud_facts.specs.Chains.Links.{top_of}
 use Rattle.cloud_facts.proofs.Chains.Pieces.{none_stands}
-use Rattle.cloud_facts.specs.Calls.Standing.{StandsUnder}
-use Rattle.cloud_trait.specs.State.{CloudState}
-use Rattle.cloud_trait.specs.declared.state.Version.{Version}
+use Rattle.cloud_facts.specs.Words.{IsClient, IsTree, Entry, Version, CloudState, Book, Store, IsIn, nodes_of, roots_of, store_of, StandsUnder}
 use Rattle.db_base.specs.Cursor.{number_of}
-use Rattle.db_base.specs.Ids.{IsClient, IsTree}
 use Rattle.db_base.specs.declared.names.ObjName.TheVariants as object
 use Rattle.cloud_facts.proofs.Decoding.Newest.{IsLast, last_cases, last_map, has_nth, never_gone}
 use Rattle.cloud_facts.proofs.Decoding.Reading.{root_reads}
 use Rattle.log_codec.proofs.PuLaws.{pu_of-some}
 use Rattle.node_codec.specs.Tree.{HasTreeSpelling, empty_tree}
-use Rattle.report_types.specs.declared.entry.Entry.{Entry}
 use Rattle.run_cursor.specs.Run.{Taken}
 use Rattle.session_facts.specs.Machines.Runs.Knows.{TookRun}
 use Rattle.session_facts.proofs.Machines.Runs.Taken.{run_has, run_in}
-use Rattle.cloud_facts.specs.Book.Book.{Book}
 use Rattle.cloud_facts.specs.Book.Premises.{IsItemOf}
-use Rattle.cloud_facts.specs.Book.Records.{IsIn}
-use Rattle.cloud_facts.specs.Book.Tally.{Store}
-use Rattle.cloud_facts.specs.Book.Telling.{last_or, root_in, nodes_of, roots_of}
+use Rattle.cloud_facts.specs.Book.Telling.{last_or, root_in}
 use Rattle.cloud_facts.proofs.Book.Places.{in_behind}
-use Rattle.cloud_facts.specs.Tellings.Told.{store_of}
 use Rattle.tree_phases.specs.declared.kept.KeptNode.{KeptNode}
 use Rattle.tree_phases.specs.declared.link.Link.{Link as Found}
 use Rattle.session_facts.specs.Machines.Trees.Charts.{AreFound}

@@ -3,19 +3,13 @@ use Rattle.std.proofs.Common.{◌≡◌, ◌+◌, ◌⊎◌, inl, inr, ℕ, fals
 use Rattle.cloud_facts.specs.Chains.Cuts.{inner_node}
 use Rattle.cloud_facts.specs.Chains.Links.{top_of}
 use Rattle.cloud_facts.proofs.Chains.GoneLemmas.{links_kept}
-use Rattle.cloud_facts.specs.Calls.Standing.{StandsUnder}
-use Rattle.cloud_trait.specs.Claim.{Claim, Lasts}
-use Rattle.cloud_trait.specs.State.{CloudState}
+use Rattle.cloud_facts.specs.Words.{Entry, CloudState, Claim, Lasts, Book, Store, nodes_of, roots_of, store_of, StandsUnder}
 use Rattle.db_base.specs.declared.names.Lock.TheVariants as lock
 use Rattle.cloud_facts.specs.Leases.Guards.{IsGuarded}
-use Rattle.report_types.specs.declared.entry.Entry.{Entry}
 use Rattle.split_plan.specs.declared.put_list.PagePut.{PagePut}
 use Rattle.split_plan.specs.Part.{NodePart}
 use Rattle.split_plan.specs.Plan.{put_of, on_pages, node_bytes}
-use Rattle.cloud_facts.specs.Book.Book.{Book}
-use Rattle.cloud_facts.specs.Book.Tally.{Store}
-use Rattle.cloud_facts.specs.Book.Telling.{nodes_of, gone_of, roots_of}
-use Rattle.cloud_facts.specs.Tellings.Told.{store_of}
+use Rattle.cloud_facts.specs.Book.Telling.{gone_of}
 use Rattle.session_facts.proofs.Machines.TreeCheckpoints.Guards.{reserved_page}
 use Rattle.session_facts.specs.Machines.Trees.Placings.{AreReserved, numbered}
 use Rattle.session_facts.specs.Machines.Risings.Knows.{ReservesNodes, PutsNode, PutsCut, PutsRoot, PutsOf, KnowsRising, whole, cut}

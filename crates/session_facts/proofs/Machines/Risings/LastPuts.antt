@@ -4,19 +4,14 @@ use Rattle.std.specs.List.{AllByRecursion}
 use Rattle.cloud_facts.specs.Chains.Chain.{IsUnlinked}
 use Rattle.cloud_facts.specs.Chains.Cuts.{links_on, HaveLanded, inner_node}
 use Rattle.cloud_facts.specs.Chains.Links.{top_of, NamesLinks, NamesBelow}
-use Rattle.cloud_facts.specs.Calls.Standing.{StandsUnder}
+use Rattle.cloud_facts.specs.Words.{Entry, Tree, CloudState, Caller, Claim, Lasts, PutHeld, Book, Link, Store, IsIn, nodes_of, roots_of, store_of, StandsUnder}
 use Rattle.cloud_facts.proofs.Calls.Passing.{landing_passes}
-use Rattle.cloud_trait.specs.Ask.{PutHeld}
-use Rattle.cloud_trait.specs.Caller.{Caller}
-use Rattle.cloud_trait.specs.Claim.{Claim, Lasts}
-use Rattle.cloud_trait.specs.State.{CloudState}
 use Rattle.db_base.specs.declared.names.Lock.TheVariants as lock
 use Rattle.db_base.specs.declared.names.ObjName.TheVariants as object
 use Rattle.cloud_facts.specs.Homes.Homes.{Part as Home}
 use Rattle.cloud_facts.specs.Landings.Landing.{Landing}
 use Rattle.node_codec.specs.Inner.{node_of_root}
-use Rattle.node_codec.specs.Tree.{Tree, IsTree as SpellsTree}
-use Rattle.report_types.specs.declared.entry.Entry.{Entry}
+use Rattle.node_codec.specs.Tree.{IsTree as SpellsTree}
 use Rattle.session_facts.proofs.Machines.Runs.Received.{each_in}
 use Rattle.split_plan.proofs.Counting.{can-cuts}
 use Rattle.split_plan.proofs.Cutting.{pieces-are-a-cut}
@@ -25,16 +20,12 @@ use Rattle.split_plan.specs.Cut.{IsNewPart, BeginAs, IsCut}
 use Rattle.split_plan.specs.Part.{NodePart, part_of_node, entry_key}
 use Rattle.split_plan.specs.Plan.{IsNodePart, put_of, on_pages, node_bytes, root_pieces, root_above}
 use Rattle.split_plan.specs.Sizes.{cuts_of}
-use Rattle.cloud_facts.specs.Book.Book.{Book, Link}
 use Rattle.cloud_facts.specs.Book.Effects.{after_root, after_raise}
 use Rattle.cloud_facts.specs.Book.Growth.{Grows}
 use Rattle.cloud_facts.specs.Book.Premises.{AreThere}
-use Rattle.cloud_facts.specs.Book.Records.{IsIn}
-use Rattle.cloud_facts.specs.Book.Tally.{Store}
-use Rattle.cloud_facts.specs.Book.Telling.{nodes_of, gone_of, roots_of}
+use Rattle.cloud_facts.specs.Book.Telling.{gone_of}
 use Rattle.cloud_facts.proofs.Book.Places.{in_front, in_behind}
 use Rattle.cloud_facts.proofs.Tellings.Names.{at2_same, at2_beside}
-use Rattle.cloud_facts.specs.Tellings.Told.{store_of}
 use Rattle.tree_phases.specs.Placing.{puts_after, has_nothing}
 use Rattle.tree_phases.specs.Read.{tree_held}
 use Rattle.tree_phases.specs.declared.rising.Rising.{Rising}

@@ -6,38 +6,26 @@ use Rattle.cloud_facts.specs.Chains.Cuts.{links_on, HaveLanded, inner_node}
 use Rattle.cloud_facts.specs.Chains.Landing.{LandsRoot, Raises}
 use Rattle.cloud_facts.specs.Chains.Links.{link_of, top_of}
 use Rattle.cloud_facts.proofs.Chains.Pieces.{in_first, in_rest, in_cases, none_in}
-use Rattle.cloud_facts.specs.Calls.Standing.{StandsUnder}
-use Rattle.cloud_trait.specs.Ask.{PutHeld}
-use Rattle.cloud_trait.specs.Caller.{Caller}
-use Rattle.cloud_trait.specs.Claim.{Claim}
-use Rattle.cloud_trait.specs.State.{CloudState}
+use Rattle.cloud_facts.specs.Words.{IsClient, IsTree, Entry, PuItem, Tree, CloudState, Caller, Claim, PutHeld, Book, Link, Store, IsIn, nodes_of, roots_of, store_of, StandsUnder}
 use Rattle.db_base.specs.Change.{key_of}
 use Rattle.db_base.specs.Cursor.{number_of}
-use Rattle.db_base.specs.Ids.{IsClient, IsTree}
 use Rattle.db_base.specs.declared.names.ObjName.TheVariants as object
 use Rattle.cloud_facts.specs.Landings.Landing.{Landing, puts_root, raises_root}
-use Rattle.log_codec.specs.declared.record.PuItem.{PuItem}
 use Rattle.node_codec.specs.Inner.{node_of_root, first_low_of}
 use Rattle.node_codec.specs.Node.{Entry as Child}
-use Rattle.node_codec.specs.Tree.{Tree, IsTree as SpellsTree}
-use Rattle.report_types.specs.declared.entry.Entry.{Entry}
+use Rattle.node_codec.specs.Tree.{IsTree as SpellsTree}
 use Rattle.run_cursor.specs.Run.{IsRun}
 use Rattle.session_facts.specs.Machines.Runs.Knows.{IsCoveredBy, MayDelete}
 use Rattle.session_facts.proofs.Machines.Runs.Received.{message_client}
 use Rattle.split_plan.specs.Part.{NodePart, part_of_node, entry_key}
 use Rattle.split_plan.specs.Plan.{on_pages, entry_of, child_of, root_pieces, root_above}
 use Rattle.split_plan.specs.Sizes.{cuts_of}
-use Rattle.cloud_facts.specs.Book.Book.{Book, Link}
 use Rattle.cloud_facts.specs.Book.Effects.{after_root, after_raise}
 use Rattle.cloud_facts.specs.Book.Premises.{IsItemOf, CoversApplied, AreThere}
-use Rattle.cloud_facts.specs.Book.Records.{IsIn}
-use Rattle.cloud_facts.specs.Book.Tally.{Store}
-use Rattle.cloud_facts.specs.Book.Telling.{nodes_of, roots_of}
 use Rattle.cloud_facts.proofs.Tellings.Fences.{cut_links, level_pieces, level_ascends, pages_distinct}
 use Rattle.cloud_facts.proofs.Tellings.Names.{at2_same}
 use Rattle.cloud_facts.proofs.Tellings.Sound.{nodes_rise}
 use Rattle.cloud_facts.specs.Tellings.Pieces.{right_of}
-use Rattle.cloud_facts.specs.Tellings.Told.{store_of}
 use Rattle.tree_phases.specs.Root.{new_pages}
 use Rattle.session_facts.specs.Machines.Risings.Knows.{IsRaised}
 use Rattle.session_facts.proofs.Machines.Risings.Covers.{covers, raised_number}

@@ -1,33 +1,19 @@
 -- What each put of the way up leaves, whether it landed or not.
 use Rattle.std.proofs.Common.{◌≡◌, ◌+◌, ◌⊎◌, inl, inr, ℕ, List, [], ◌∷◌, ◌++◌, length, map, reverse, Option, Some, None, Result, Ok, Err, refl, sym, ap, subst, ◌∙◌}
 use Rattle.cloud_facts.specs.Calls.Acting.{Aside, Setting, Outcome}
-use Rattle.cloud_facts.specs.Calls.Call.{IsCall}
+use Rattle.cloud_facts.specs.Words.{Trouble, ObjName, Entry, Head, Answer, CloudState, called, Caller, Claim, Lasts, Ask, PutHeld, done_of, Book, Store, at, IsIn, store_of, IsCall, StandsUnder}
 use Rattle.cloud_facts.specs.Calls.Looks.{audit_of}
-use Rattle.cloud_facts.specs.Calls.Standing.{StandsUnder}
 use Rattle.cloud_facts.proofs.Calls.Calls.{put_cases, put_lasts}
 use Rattle.cloud_facts.proofs.Calls.StandingLemmas.{landing_tells, effect_stands, same_stands}
-use Rattle.cloud_trait.specs.declared.answer.Answer.{Answer}
-use Rattle.cloud_trait.specs.Ask.{Ask, PutHeld, Lands, effect}
-use Rattle.cloud_trait.specs.Caller.{Caller}
-use Rattle.cloud_trait.specs.Claim.{Claim, Lasts}
-use Rattle.cloud_trait.specs.State.{CloudState, called}
-use Rattle.cloud_trait.specs.Views.{done_of}
+use Rattle.cloud_trait.specs.Ask.{Lands, effect}
 use Rattle.db_base.specs.declared.names.Lock.TheVariants as lock
-use Rattle.db_base.specs.declared.names.ObjName.{ObjName}
 use Rattle.db_base.specs.declared.names.ObjName.TheVariants as object
-use Rattle.db_base.specs.declared.trouble.Trouble.{Trouble}
-use Rattle.head_codec.specs.declared.head.Head.{Head}
 use Rattle.history.specs.Audited.{Audited}
 use Rattle.cloud_facts.specs.Homes.Homes.{Part as Home, Parts, HomesHold}
 use Rattle.cloud_facts.proofs.Homes.HomeLemmas.{keeps_part, aside_keeps}
-use Rattle.report_types.specs.declared.entry.Entry.{Entry}
 use Rattle.split_plan.specs.Part.{NodePart}
 use Rattle.split_plan.specs.Plan.{put_of, on_pages, node_bytes}
-use Rattle.cloud_facts.specs.Book.Book.{Book}
-use Rattle.cloud_facts.specs.Book.Records.{IsIn}
-use Rattle.cloud_facts.specs.Book.Tally.{Store, at}
 use Rattle.cloud_facts.proofs.Tellings.Asks.{told_store}
-use Rattle.cloud_facts.specs.Tellings.Told.{store_of}
 use Rattle.tree_phases.specs.declared.rising.Rising.{Rising}
 use Rattle.tree_phases.specs.Rising.{rising_ask, rising_next, risen_by, put_landed as risen}
 use Rattle.session_facts.specs.Machines.Risings.Knows.{PutsNode, PutsWhole, PutsCut, PutsRoot, whole, cut, PutsOf, KnowsRising, RisesOn}

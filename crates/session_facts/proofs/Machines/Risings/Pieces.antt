@@ -5,27 +5,18 @@ use Rattle.cloud_facts.specs.Chains.Chain.{IsChained, IsUnlinked, IsVersionOf}
 use Rattle.cloud_facts.specs.Chains.Cuts.{HaveLanded, inner_node}
 use Rattle.cloud_facts.specs.Chains.Landing.{LandsInner}
 use Rattle.cloud_facts.specs.Chains.Links.{NamesLinks, NamesBelow, NodeNames}
-use Rattle.cloud_facts.specs.Calls.Standing.{StandsUnder}
-use Rattle.cloud_trait.specs.Claim.{Claim, Lasts}
-use Rattle.cloud_trait.specs.State.{CloudState}
-use Rattle.db_base.specs.Ids.{IsTree}
-use Rattle.node_codec.specs.Inner.{Inner, IsInner, first_low_of}
+use Rattle.cloud_facts.specs.Words.{IsTree, Entry as Change, Inner, CloudState, Claim, Lasts, Book, Link, Store, Branch, IsIn, nodes_of, roots_of, store_of, StandsUnder}
+use Rattle.node_codec.specs.Inner.{IsInner, first_low_of}
 use Rattle.node_codec.specs.Node.{Entry}
-use Rattle.report_types.specs.declared.entry.Entry.{Entry as Change}
 use Rattle.split_plan.proofs.Counting.{can-cuts}
 use Rattle.split_plan.proofs.Cutting.{can-behind}
 use Rattle.split_plan.specs.Cut.{first_key_of, cut_by, back_part}
 use Rattle.split_plan.specs.Part.{NodePart, part_of_node, entry_key}
 use Rattle.split_plan.specs.Sizes.{CanCut, cuts_of}
-use Rattle.cloud_facts.specs.Book.Book.{Book, Link}
-use Rattle.cloud_facts.specs.Book.Records.{IsIn}
-use Rattle.cloud_facts.specs.Book.Tally.{Branch, Store}
-use Rattle.cloud_facts.specs.Book.Telling.{nodes_of, roots_of}
 use Rattle.cloud_facts.proofs.Book.Places.{in_front, in_behind}
 use Rattle.cloud_facts.proofs.Tellings.Ready.{inner_lands}
 use Rattle.cloud_facts.specs.Tellings.Pieces.{right_of, node_parts, left_inner, node_links}
 use Rattle.cloud_facts.specs.Tellings.Taking.{IsLinked}
-use Rattle.cloud_facts.specs.Tellings.Told.{store_of}
 use Rattle.tree_phases.specs.declared.kept.KeptNode.{KeptNode}
 use Rattle.tree_phases.specs.declared.link.Link.{Link as Found}
 use Rattle.tree_phases.specs.Nodes.{with_links}

@@ -6,19 +6,13 @@ use Rattle.cloud_facts.specs.Chains.Chain.{IsChained, IsUnlinked, IsVersionOf}
 use Rattle.cloud_facts.specs.Chains.Cuts.{links_on, HaveLanded, inner_node}
 use Rattle.cloud_facts.specs.Chains.Links.{top_of, newest_node, NamesLinks, NamesBelow}
 use Rattle.cloud_facts.proofs.Chains.Pieces.{in_first, in_rest, in_cases, none_in, joined_has}
-use Rattle.cloud_facts.specs.Calls.Standing.{StandsUnder}
+use Rattle.cloud_facts.specs.Words.{Entry, Inner, CloudState, Caller, Claim, Lasts, PutHeld, Goes, Book, Link, Store, Node, Branch, IsIn, nodes_of, roots_of, store_of, StandsUnder}
 use Rattle.cloud_facts.proofs.Calls.Passing.{landing_passes}
-use Rattle.cloud_trait.specs.Ask.{PutHeld}
-use Rattle.cloud_trait.specs.Caller.{Caller}
-use Rattle.cloud_trait.specs.Claim.{Claim, Lasts}
-use Rattle.cloud_trait.specs.Machine.{Goes}
-use Rattle.cloud_trait.specs.State.{CloudState}
 use Rattle.db_base.specs.declared.names.Lock.TheVariants as lock
 use Rattle.db_base.specs.declared.names.ObjName.TheVariants as object
 use Rattle.cloud_facts.specs.Homes.Homes.{Part as Home}
 use Rattle.cloud_facts.specs.Landings.Landing.{Landing, puts_inner}
-use Rattle.node_codec.specs.Inner.{Inner, IsInner}
-use Rattle.report_types.specs.declared.entry.Entry.{Entry}
+use Rattle.node_codec.specs.Inner.{IsInner}
 use Rattle.session_facts.specs.Machines.Runs.Knows.{TookRun}
 use Rattle.session_facts.proofs.Machines.Runs.Received.{each_in}
 use Rattle.split_plan.proofs.Cutting.{pieces-are-a-cut}
@@ -27,18 +21,16 @@ use Rattle.split_plan.specs.Cut.{IsNewPart, BeginAs, IsCut}
 use Rattle.split_plan.specs.Part.{NodePart, part_of_node, node_of_part, entry_key}
 use Rattle.split_plan.specs.Plan.{IsNodePart, put_of, entry_of, on_pages, node_bytes, node_pieces}
 use Rattle.split_plan.specs.Sizes.{cuts_of}
-use Rattle.cloud_facts.specs.Book.Book.{Book, Link, with_pieces}
+use Rattle.cloud_facts.specs.Book.Book.{with_pieces}
 use Rattle.cloud_facts.specs.Book.Effects.{after_inner}
 use Rattle.cloud_facts.specs.Book.Growth.{Grows}
 use Rattle.cloud_facts.specs.Book.Premises.{AreThere}
-use Rattle.cloud_facts.specs.Book.Records.{IsIn}
-use Rattle.cloud_facts.specs.Book.Tally.{Node, Branch, Store, version_of}
-use Rattle.cloud_facts.specs.Book.Telling.{nodes_of, gone_of, roots_of}
+use Rattle.cloud_facts.specs.Book.Tally.{version_of}
+use Rattle.cloud_facts.specs.Book.Telling.{gone_of}
 use Rattle.cloud_facts.proofs.Book.Places.{in_either, in_front, in_behind}
 use Rattle.cloud_facts.proofs.Tellings.Fences.{cut_common, cut_version}
 use Rattle.cloud_facts.proofs.Tellings.Names.{at2_same, at2_beside}
 use Rattle.cloud_facts.specs.Tellings.Pieces.{first_part, right_of, node_parts, left_inner, node_links}
-use Rattle.cloud_facts.specs.Tellings.Told.{store_of}
 use Rattle.tree_phases.specs.declared.link.Link.{Link as Found}
 use Rattle.tree_phases.specs.Kept.{links_at}
 use Rattle.tree_phases.specs.Placing.{root_after, puts_after}

@@ -5,23 +5,15 @@ use Rattle.std.proofs.lemmas.List.{append-nil}
 use Rattle.byte_format.specs.Format.{greatest}
 use Rattle.cloud_facts.specs.Chains.Chain.{IsChained}
 use Rattle.cloud_facts.specs.Chains.Links.{NamesBelow}
-use Rattle.cloud_facts.specs.Calls.Standing.{StandsUnder}
-use Rattle.cloud_trait.specs.Claim.{Claim}
-use Rattle.cloud_trait.specs.State.{CloudState}
-use Rattle.db_base.specs.declared.trouble.Trouble.{Trouble}
+use Rattle.cloud_facts.specs.Words.{Trouble, Entry, Tree, CloudState, Claim, Book, Store, nodes_of, roots_of, store_of, StandsUnder}
 use Rattle.node_codec.proofs.TreeLemmas.{tree_fits}
 use Rattle.node_codec.specs.Inner.{node_of_root}
 use Rattle.node_codec.specs.Node.{raised}
 use Rattle.node_codec.specs.Node.{Entry as Named}
-use Rattle.node_codec.specs.Tree.{Tree, HasTreeSpelling, IsSoundTree}
-use Rattle.report_types.specs.declared.entry.Entry.{Entry}
+use Rattle.node_codec.specs.Tree.{HasTreeSpelling, IsSoundTree}
 use Rattle.split_plan.specs.Part.{entry_key, part_of_node}
 use Rattle.split_plan.specs.Plan.{root_pieces}
 use Rattle.split_plan.specs.Sizes.{count_of}
-use Rattle.cloud_facts.specs.Book.Book.{Book}
-use Rattle.cloud_facts.specs.Book.Tally.{Store}
-use Rattle.cloud_facts.specs.Book.Telling.{nodes_of, roots_of}
-use Rattle.cloud_facts.specs.Tellings.Told.{store_of}
 use Rattle.tree_phases.specs.declared.reserve.Reserved.{Reserved}
 use Rattle.tree_phases.specs.Read.{tree_held}
 use Rattle.tree_phases.specs.Reserve.{version_spent, pages_spent, next_tree, reservation}

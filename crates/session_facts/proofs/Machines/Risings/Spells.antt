@@ -15,10 +15,11 @@ use Rattle.node_codec.proofs.InnerLemmas.{inner_fits, fit_inner, cut_node, left_
 use Rattle.node_codec.proofs.NodeLemmas.{in_range_from, in_range_parts, not_below_empty, pairs_of_fit}
 use Rattle.node_codec.proofs.PlainLemmas.{whole_list_read}
 use Rattle.node_codec.proofs.TreeLemmas.{tree_fits, fit_tree, items_spelled}
-use Rattle.node_codec.specs.Inner.{Inner, HasInnerSpelling, AreInnerParts, inner_in, left_node, right_node, node_of_root}
+use Rattle.cloud_facts.specs.Words.{Inner, Tree, IsIn}
+use Rattle.node_codec.specs.Inner.{HasInnerSpelling, AreInnerParts, inner_in, left_node, right_node, node_of_root}
 use Rattle.node_codec.specs.Node.{Entry, entry, plain_entry, least_client, client_number, with_entry, raised}
 use Rattle.node_codec.specs.Plain.{items_of}
-use Rattle.node_codec.specs.Tree.{Tree, HasTreeSpelling, IsSoundTree, empty_tree, raised_root, with_child}
+use Rattle.node_codec.specs.Tree.{HasTreeSpelling, IsSoundTree, empty_tree, raised_root, with_child}
 use Rattle.split_plan.proofs.Buffers.{left-inner, right-inner}
 use Rattle.split_plan.proofs.Counting.{can-cuts, length-cuts}
 use Rattle.split_plan.proofs.Cutting.{can-behind}
@@ -28,7 +29,6 @@ use Rattle.split_plan.specs.Cut.{cut_by}
 use Rattle.split_plan.specs.Part.{NodePart, entry_key, part_of_node}
 use Rattle.split_plan.specs.Plan.{IsNodePart, on_pages, entry_of, node_pieces, root_pieces, root_above, with_children}
 use Rattle.split_plan.specs.Sizes.{CanCut, count_of, cuts_of}
-use Rattle.cloud_facts.specs.Book.Records.{IsIn}
 use Rattle.tree_phases.specs.declared.link.Link.{Link as Found}
 use Rattle.tree_phases.specs.Nodes.{goes_to, with_links}
 use Rattle.tree_phases.specs.Root.{is_named, with_named, new_pages}

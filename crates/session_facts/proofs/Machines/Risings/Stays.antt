@@ -1,9 +1,6 @@
 -- The way up stays in its tree.
 use Rattle.std.proofs.Common.{◌≡◌, ℕ, Result, refl}
-use Rattle.cloud_trait.specs.declared.answer.Answer.{Answer}
-use Rattle.cloud_trait.specs.Machine.{Goes, Ends, Stops}
-use Rattle.cloud_trait.specs.Views.{done_of}
-use Rattle.db_base.specs.declared.trouble.Trouble.{Trouble}
+use Rattle.cloud_facts.specs.Words.{Trouble, Answer, Goes, Ends, Stops, done_of}
 use Rattle.tree_phases.specs.declared.rising.Rising.{Rising}
 use Rattle.tree_phases.specs.Rising.{RisingStep}
 use Rattle.tree_phases.specs.Rising as up

@@ -1,15 +1,8 @@
 -- The way up stops for no damage: its nodes are those that were got, and read as they were.
 use Rattle.std.proofs.Common.{◌≡◌, ◌+◌, ◌-◌, ◌==◌, ◌&&◌, ℕ, Bool, true, false, cond, List, length, drop, Option, None, Result, Ok, Err, refl, subst}
 use Rattle.std.specs.Prelude.{nat_lt}
-use Rattle.cloud_trait.specs.declared.answer.Answer.{Answer}
-use Rattle.cloud_trait.specs.Claim.{Claim}
-use Rattle.cloud_trait.specs.Machine.{Next}
-use Rattle.cloud_trait.specs.Views.{done_of}
-use Rattle.db_base.specs.declared.trouble.Trouble.{Trouble}
-use Rattle.node_codec.specs.Inner.{Inner}
-use Rattle.node_codec.specs.Tree.{Tree}
+use Rattle.cloud_facts.specs.Words.{Trouble, Inner, Tree, Answer, Claim, Next, done_of, Store}
 use Rattle.split_plan.specs.Sizes.{count_of}
-use Rattle.cloud_facts.specs.Book.Tally.{Store}
 use Rattle.session_facts.specs.Machines.TreeCheckpoints.Knows.{MayStopTree}
 use Rattle.session_facts.proofs.Machines.TreeCheckpoints.Stops.{StopsWell, IsFair, spent_may, done_may, next_fair, reservation_fair}
 use Rattle.session_facts.specs.Machines.Trees.Charts.{KnowsNode, KnowsNodes}

@@ -5,8 +5,7 @@ use Rattle.cloud_facts.specs.Chains.Gones.{Gones}
 use Rattle.cloud_facts.proofs.Chains.GoneLemmas.{links_kept}
 use Rattle.cloud_facts.specs.Chains.Links.{newest_node}
 use Rattle.cloud_facts.proofs.Calls.Pages.{none_landed}
-use Rattle.cloud_trait.specs.State.{CloudState, newest}
-use Rattle.cloud_trait.specs.declared.state.Version.{Version}
+use Rattle.cloud_facts.specs.Words.{Leaf, Version, CloudState, newest, Store, Node, Leafy, IsIn, StandsAt, nodes_of}
 use Rattle.cloud_facts.specs.Decoding.Decodes.{Decodes}
 use Rattle.cloud_facts.specs.Decoding.Kinds.{HasNth, IsLastRemoval, AreOfKind}
 use Rattle.db_base.specs.declared.names.ObjName.TheVariants as object
@@ -15,11 +14,10 @@ use Rattle.cloud_facts.proofs.Decoding.Newest.{last_map, last_there, newest_last
 use Rattle.cloud_facts.proofs.Decoding.Reading.{leaf_only, node_reads}
 use Rattle.cloud_facts.proofs.Decoding.Versions.{all_there}
 use Rattle.cloud_facts.proofs.Numbers.Lists.{Passes, filter_there}
-use Rattle.leaf_view.specs.Leaf.{Leaf, IsLeaf}
+use Rattle.leaf_view.specs.Leaf.{IsLeaf}
 use Rattle.leaf_view.specs.Lookup.{empty_leaf, number_of as done_number}
-use Rattle.cloud_facts.specs.Book.Records.{StandsAt, IsIn}
-use Rattle.cloud_facts.specs.Book.Tally.{Node, Leafy, Store, version_of}
-use Rattle.cloud_facts.specs.Book.Telling.{last_or, node_in, node_of_bytes, node_or, with_bytes, nodes_of, gone_of, newest_leaf, cursor_of, queue_of}
+use Rattle.cloud_facts.specs.Book.Tally.{version_of}
+use Rattle.cloud_facts.specs.Book.Telling.{last_or, node_in, node_of_bytes, node_or, with_bytes, gone_of, newest_leaf, cursor_of, queue_of}
 use Rattle.cloud_facts.proofs.Book.Lengths.{image}
 use Rattle.cloud_facts.specs.Tellings.Taking.{IsLinked}
 

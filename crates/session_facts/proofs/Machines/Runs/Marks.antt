@@ -1,16 +1,14 @@
 -- What is known of a run goes on, and what a deletion rests on.
 use Rattle.std.proofs.Common.{◌≡◌, ◌≤◌, ℕ, List, Some, sym, ap, subst, ◌∙◌, arith}
 use Rattle.std.specs.Prelude.{slice_get}
-use Rattle.cloud_trait.specs.declared.state.Posted.{Posted}
+use Rattle.cloud_facts.specs.Words.{IsClient, Posted, Store}
 use Rattle.db_base.specs.Cursor.{number_of}
-use Rattle.db_base.specs.Ids.{IsClient}
 use Rattle.log_codec.specs.Pu.{pu_of}
 use Rattle.log_codec.specs.declared.record.PuRec.{PuRec}
 use Rattle.run_cursor.specs.Run.{Taken}
 use Rattle.cloud_facts.specs.Book.Growth.{Grows}
 use Rattle.cloud_facts.specs.Book.Messages.{IsMessage}
 use Rattle.cloud_facts.specs.Book.Premises.{MarksPost}
-use Rattle.cloud_facts.specs.Book.Tally.{Store}
 use Rattle.session_facts.specs.Machines.Runs.Knows.{IsCoveredBy, TookRun, MayDelete}
 use Rattle.cloud_facts.proofs.Calls.Copies.{is_message_stays, item_stays}
 use Rattle.session_facts.proofs.Machines.Runs.Received.{message_client}

@@ -9,11 +9,9 @@ use Rattle.ckpt_parts.specs.Intakes.{item_with, with_first, items_of}
 use Rattle.cloud_trait.specs.Delivery.{WasSent}
 use Rattle.cloud_trait.specs.State.{message_at}
 use Rattle.cloud_trait.specs.declared.message.Message.{Message}
-use Rattle.cloud_trait.specs.declared.state.Posted.{Posted}
+use Rattle.cloud_facts.specs.Words.{IsClient, PuItem, Posted, Store, IsIn}
 use Rattle.db_base.specs.Cursor.{number_of}
-use Rattle.db_base.specs.Ids.{IsClient}
 use Rattle.log_codec.specs.Pu.{pu_of}
-use Rattle.log_codec.specs.declared.record.PuItem.{PuItem}
 use Rattle.log_codec.specs.declared.record.PuRec.{PuRec}
 use Rattle.log_codec.proofs.PuLaws.{pu_of-some}
 use Rattle.cloud_facts.specs.Numbers.Numbers.{Numbers}
@@ -21,8 +19,6 @@ use Rattle.route_plan.specs.Record.{pu_record_of}
 use Rattle.run_cursor.specs.Covered.{is_covered, is_seen, new_ones, covered_ids}
 use Rattle.cloud_facts.specs.Book.Messages.{IsMessage}
 use Rattle.cloud_facts.specs.Book.Premises.{IsItemOf}
-use Rattle.cloud_facts.specs.Book.Records.{IsIn}
-use Rattle.cloud_facts.specs.Book.Tally.{Store}
 use Rattle.cloud_facts.proofs.Book.Places.{get_within}
 use Rattle.session_facts.specs.Machines.Runs.Knows.{IsSentItem, IsCoveredBy}
 

@@ -2,14 +2,11 @@
 use Rattle.std.proofs.Common.{◌≡◌, ◌<◌, ◌≤◌, ◌==◌, ◌⊎◌, inl, inr, ℕ, zero, suc, cond, max, eqb, eqb-true, List, [], ◌∷◌, Some, refl, ap, subst, arith}
 use Rattle.std.proofs.lemmas.Bool.{and_parts, cases_lt, eq-eqb}
 use Rattle.db_base.specs.Cursor.{number_of}
-use Rattle.db_base.specs.Ids.{IsClient}
+use Rattle.cloud_facts.specs.Words.{IsClient, PuItem, Store, IsIn}
 use Rattle.leaf_edit.specs.Raised.{greatest_of}
-use Rattle.log_codec.specs.declared.record.PuItem.{PuItem}
 use Rattle.cloud_facts.proofs.Numbers.Runs.{counted_there, greatest_upto}
 use Rattle.run_cursor.specs.Run.{is_at, first_at, IsWithin, IsRun}
 use Rattle.cloud_facts.specs.Book.Premises.{IsConsecutive}
-use Rattle.cloud_facts.specs.Book.Records.{IsIn}
-use Rattle.cloud_facts.specs.Book.Tally.{Store}
 use Rattle.cloud_facts.proofs.Calls.Searching.{found}
 use Rattle.session_facts.proofs.Machines.Runs.Received.{all_in}
 

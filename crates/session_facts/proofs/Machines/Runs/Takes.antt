@@ -4,28 +4,20 @@ use Rattle.std.specs.Prelude.{◌&&◌, nat_lt}
 use Rattle.std.proofs.lemmas.Bool.{and_from, eq-eqb, ltb-false}
 use Rattle.db_base.specs.Change.{key_of}
 use Rattle.db_base.specs.Cursor.{number_of}
-use Rattle.db_base.specs.Ids.{IsClient, IsTree}
+use Rattle.cloud_facts.specs.Words.{IsClient, IsTree, Entry, PuItem, Leaf, CloudState, Caller, Book, Store, IsIn, nodes_of, roots_of, store_of, StandsUnder}
 use Rattle.cloud_facts.specs.Chains.Chain.{IsChained}
 use Rattle.cloud_facts.specs.Chains.Landing.{LandsLeaf}
-use Rattle.cloud_facts.specs.Calls.Standing.{StandsUnder, IsTaken}
-use Rattle.cloud_trait.specs.Caller.{Caller}
-use Rattle.cloud_trait.specs.State.{CloudState}
+use Rattle.cloud_facts.specs.Calls.Standing.{IsTaken}
 use Rattle.leaf_edit.specs.Applied.{applied}
 use Rattle.leaf_edit.specs.Lacked.{is_lacked, lacked}
 use Rattle.leaf_edit.specs.Raised.{greatest_of}
-use Rattle.leaf_view.specs.Leaf.{Leaf, IsLeaf}
+use Rattle.leaf_view.specs.Leaf.{IsLeaf}
 use Rattle.leaf_view.specs.Lookup.{holds, number_of as done_number}
-use Rattle.log_codec.specs.declared.record.PuItem.{PuItem}
-use Rattle.report_types.specs.declared.entry.Entry.{Entry}
 use Rattle.run_cursor.specs.Run.{IsRun}
-use Rattle.cloud_facts.specs.Book.Book.{Book}
 use Rattle.cloud_facts.specs.Book.Effects.{Taking, is_lacking, lacking, after_leaf}
 use Rattle.cloud_facts.specs.Book.Premises.{IsItemOf, Takes}
-use Rattle.cloud_facts.specs.Book.Records.{IsIn}
-use Rattle.cloud_facts.specs.Book.Tally.{Store}
-use Rattle.cloud_facts.specs.Book.Telling.{leaf_for, nodes_of, roots_of, newest_leaf, newest_root}
+use Rattle.cloud_facts.specs.Book.Telling.{leaf_for, newest_leaf, newest_root}
 use Rattle.cloud_facts.specs.Tellings.Taking.{AreClients, taking_of, IsLinked, LandsTaken}
-use Rattle.cloud_facts.specs.Tellings.Told.{store_of}
 use Rattle.cloud_facts.proofs.Tellings.Finding.{found_before}
 use Rattle.cloud_facts.proofs.Tellings.Laws.{whole_taken, taken_lands}
 use Rattle.cloud_facts.proofs.Tellings.Ready.{taken_takes}

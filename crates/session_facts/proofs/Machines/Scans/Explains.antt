@@ -1,23 +1,11 @@
 -- Why a scan stops: a get failed or was stale, in its walk and at each right page.
 use Rattle.std.proofs.Common.{◌≡◌, List, Some, sym, subst}
-use Rattle.cloud_facts.specs.Calls.Standing.{StandsUnder}
+use Rattle.cloud_facts.specs.Words.{Trouble, ObjName, Entry, Answer, CloudState, Caller, Seen, Claim, Get, Book, Store, store_of, StandsUnder}
 use Rattle.cloud_facts.proofs.Calls.Calls.{call_of}
-use Rattle.cloud_trait.specs.declared.answer.Answer.{Answer}
-use Rattle.cloud_trait.specs.Ask.{Get}
-use Rattle.cloud_trait.specs.Caller.{Caller}
-use Rattle.cloud_trait.specs.Claim.{Claim}
-use Rattle.cloud_trait.specs.Seen.{Seen}
-use Rattle.cloud_trait.specs.State.{CloudState}
 use Rattle.cloud_trait.specs.Weather.{Makes}
-use Rattle.db_base.specs.declared.names.ObjName.{ObjName}
 use Rattle.db_base.specs.declared.trouble.Counter.{Counter}
-use Rattle.db_base.specs.declared.trouble.Trouble.{Trouble}
 use Rattle.page_cache.specs.Cache.{Cache}
 use Rattle.range_scan.specs.Scan.{Scan, scan_object, scan_ask, scan_next}
-use Rattle.report_types.specs.declared.entry.Entry.{Entry}
-use Rattle.cloud_facts.specs.Book.Book.{Book}
-use Rattle.cloud_facts.specs.Book.Tally.{Store}
-use Rattle.cloud_facts.specs.Tellings.Told.{store_of}
 use Rattle.session_facts.specs.Machines.Scans.Knows.{KnowsScanning, ScanLeads}
 use Rattle.session_facts.specs.Sessions.Explains.{IsShown}
 use Rattle.session_facts.specs.Machines.Walks.Knows.{WalkLeads}

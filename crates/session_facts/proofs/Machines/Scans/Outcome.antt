@@ -2,23 +2,12 @@
 use Rattle.std.proofs.Common.{◌≡◌, ◌||◌, ◌⊎◌, inl, inr, ℕ, Bool, true, false, cond, List, Option, Some, None, refl, sym, ap, subst, true≢false}
 use Rattle.cloud_facts.specs.Chains.Chain.{ChainHolds}
 use Rattle.cloud_facts.proofs.Meanings.Steps.{passed_stays}
-use Rattle.cloud_facts.specs.Calls.Call.{IsCall}
-use Rattle.cloud_facts.specs.Calls.Standing.{StandsUnder}
-use Rattle.cloud_trait.specs.Caller.{Caller}
-use Rattle.cloud_trait.specs.Machine.{Goes, Stops}
-use Rattle.cloud_trait.specs.State.{CloudState}
-use Rattle.cloud_trait.specs.declared.answer.Answer.{Answer}
-use Rattle.db_base.specs.Ids.{IsTree}
-use Rattle.db_base.specs.declared.trouble.Trouble.{Trouble}
+use Rattle.cloud_facts.specs.Words.{IsTree, Trouble, Entry, Answer, CloudState, Caller, Goes, Stops, Book, Store, store_of, IsCall, StandsUnder}
 use Rattle.page_cache.specs.Cache.{Cache}
 use Rattle.range_scan.specs.Scan.{Scan, new_scan, scan_object, scan_ask, is_wanted, goes_on, moved_on, walked_by, scan_ready, scan_next}
-use Rattle.report_types.specs.declared.entry.Entry.{Entry}
 use Rattle.session_facts.specs.Machines.Scans.Knows.{IsPageBehind, StandsRight, LeadsRight, KnowsScan, KnowsScanning, IsAtScannedLeaf, ScanLeads}
 use Rattle.session_facts.proofs.Machines.Scans.Turns.{scan_turns}
-use Rattle.cloud_facts.specs.Book.Book.{Book}
 use Rattle.cloud_facts.specs.Book.Growth.{Grows}
-use Rattle.cloud_facts.specs.Book.Tally.{Store}
-use Rattle.cloud_facts.specs.Tellings.Told.{store_of}
 use Rattle.tree_walk.specs.Walk.{Spot, is_page, is_among, came_to}
 use Rattle.session_facts.specs.Machines.Walks.Caches.{KnowsCache}
 use Rattle.session_facts.specs.Machines.Walks.Knows.{MayStopWalk}

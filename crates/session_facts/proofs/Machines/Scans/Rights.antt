@@ -9,19 +9,14 @@ use Rattle.cloud_facts.specs.Chains.Links.{first_link}
 use Rattle.cloud_facts.proofs.Chains.Pieces.{not_itself}
 use Rattle.cloud_facts.specs.Meanings.Meets.{IsPassed}
 use Rattle.cloud_facts.proofs.Meanings.Steps.{not_passed, passed_right}
-use Rattle.db_base.specs.Ids.{IsTree}
+use Rattle.cloud_facts.specs.Words.{IsTree, Trouble, Leaf, Link, Store, Node, Leafy, IsIn}
 use Rattle.db_base.specs.declared.names.ObjName.TheVariants as object
-use Rattle.db_base.specs.declared.trouble.Trouble.{Trouble}
-use Rattle.leaf_view.specs.Leaf.{Leaf}
 use Rattle.leaf_view.specs.Lookup.{page_at}
 use Rattle.page_cache.specs.Cache.{Cache}
 use Rattle.page_cache.specs.Held.{leaf_at}
 use Rattle.range_scan.specs.Scan.{Scan, scan_object, scan_came_to, right_behind}
 use Rattle.range_scan.proofs.Outcomes.{Leaves, Loops}
 use Rattle.session_facts.specs.Machines.Scans.Knows.{IsLeafLink, IsPageBehind, StandsRight, IsFurther, LeadsRight, KnowsScanning, IsAtScannedLeaf}
-use Rattle.cloud_facts.specs.Book.Book.{Link}
-use Rattle.cloud_facts.specs.Book.Records.{IsIn}
-use Rattle.cloud_facts.specs.Book.Tally.{Node, Leafy, Store}
 use Rattle.tree_walk.specs.Walk.{Spot, is_among}
 use Rattle.session_facts.specs.Machines.Walks.Caches.{IsSeenLeaf}
 

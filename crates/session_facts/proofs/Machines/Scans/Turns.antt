@@ -4,14 +4,8 @@ use Rattle.std.proofs.lemmas.Bool.{or_cases, eqb-true}
 use Rattle.cloud_facts.specs.Chains.Chain.{ChainHolds}
 use Rattle.cloud_facts.proofs.Chains.Pieces.{not_itself}
 use Rattle.cloud_facts.specs.Meanings.Meets.{IsPassed}
-use Rattle.cloud_trait.specs.Machine.{Next, Goes, Ends, Stops}
-use Rattle.cloud_trait.specs.Views.{got_of}
-use Rattle.cloud_trait.specs.declared.answer.Answer.{Answer}
-use Rattle.db_base.specs.Ids.{IsTree}
-use Rattle.db_base.specs.declared.names.ObjName.{ObjName}
+use Rattle.cloud_facts.specs.Words.{IsTree, Trouble, ObjName, Leaf, Answer, Next, Goes, Ends, Stops, got_of, Link, Store, IsIn}
 use Rattle.db_base.specs.declared.names.ObjName.TheVariants as object
-use Rattle.db_base.specs.declared.trouble.Trouble.{Trouble}
-use Rattle.leaf_view.specs.Leaf.{Leaf}
 use Rattle.page_cache.specs.Cache.{Cache, accepts}
 use Rattle.page_cache.specs.Held.{leaf_at}
 use Rattle.range_scan.specs.Scan.{Scan, scan_object, scan_object_at, scan_came_to, scan_next}
@@ -19,9 +13,6 @@ use Rattle.range_scan.proofs.Outcomes as step
 use Rattle.range_scan.proofs.Outcomes.{IsRead, Reaches, StopsFor, Comes, comes}
 use Rattle.session_facts.specs.Machines.Scans.Knows.{IsLeafLink, IsPageBehind, IsOnRight, StandsRight, KnowsScanning, ScanLeads}
 use Rattle.session_facts.proofs.Machines.Scans.Rights.{none_among, among_more, seen_low, IsAtEnd, loops_never, leaves_known}
-use Rattle.cloud_facts.specs.Book.Book.{Link}
-use Rattle.cloud_facts.specs.Book.Records.{IsIn}
-use Rattle.cloud_facts.specs.Book.Tally.{Store}
 use Rattle.tree_walk.specs.Walk.{Spot, Walk, object_at, object_of, sought, is_page, is_among, came_to, walk_next}
 use Rattle.session_facts.specs.Machines.Walks.Caches.{KnowsCache, IsSeenLeaf}
 use Rattle.session_facts.specs.Machines.Walks.Knows.{WalkStandsAt, KnowsWalk, KnowsWalking, IsAtSeenLeaf, MayStopWalk, WalkLeads}

@@ -1,14 +1,9 @@
 -- The leases of a settling.
 use Rattle.std.proofs.Common.{◌≡◌, ℕ, List, [], refl, sym, ap, subst, ◌∙◌}
 use Rattle.cloud_facts.specs.Calls.Acting.{Setting, Handles}
-use Rattle.cloud_facts.specs.Calls.Call.{IsCall}
+use Rattle.cloud_facts.specs.Words.{Entry, Answer, CloudState, Caller, Claim, Next, Goes, Ends, Stops, Book, IsIn, store_of, IsCall}
 use Rattle.cloud_facts.proofs.Calls.Outcomes.{fewer_handles}
-use Rattle.cloud_trait.specs.declared.answer.Answer.{Answer}
 use Rattle.cloud_trait.specs.declared.turn.CkptAnswer.{CkptAnswer}
-use Rattle.cloud_trait.specs.Caller.{Caller}
-use Rattle.cloud_trait.specs.Claim.{Claim}
-use Rattle.cloud_trait.specs.Machine.{Next, Goes, Ends, Stops}
-use Rattle.cloud_trait.specs.State.{CloudState}
 use Rattle.cloud_facts.specs.Homes.Homes.{Part, Parts}
 use Rattle.session_facts.specs.Machines.Openings.Knows.{leases_of_recovery, leases_of_next}
 use Rattle.session_facts.proofs.Machines.Openings.Hands.{opening_handles}
@@ -16,7 +11,6 @@ use Rattle.page_ckpt.specs.Paging.{Step as PageStep}
 use Rattle.session_facts.specs.Machines.PageCheckpoints.Knows.{leases_of_paging, leases_next as leases_paging}
 use Rattle.session_facts.proofs.Machines.PageCheckpoints.Hands.{paging_handles, paging_home_handles}
 use Rattle.recover_run.specs.Recovery.{Recovery, Step as RecoveryStep, recovery_ask, recovery_next}
-use Rattle.report_types.specs.declared.entry.Entry.{Entry}
 use Rattle.settle_run.specs.declared.part.Part.{Part as AtWork}
 use Rattle.settle_run.specs.declared.part.Part.TheVariants.{Client, Tree, Page}
 use Rattle.settle_run.specs.Parts.{part_ask, recovers, makes, pages, PartLeads}
@@ -25,10 +19,7 @@ use Rattle.session_facts.specs.Machines.Settlings.Knows.{KnowsAtWork, KnowsSettl
 use Rattle.session_facts.proofs.Machines.Settlings.Beside.{handles_alone}
 use Rattle.session_facts.proofs.Machines.Settlings.Nexts.{leases_moved, moved_leases}
 use Rattle.session_facts.proofs.Machines.Settlings.Others.{at_work_later}
-use Rattle.cloud_facts.specs.Book.Book.{Book}
-use Rattle.cloud_facts.specs.Book.Records.{IsIn}
 use Rattle.cloud_facts.proofs.Book.Places.{in_none}
-use Rattle.cloud_facts.specs.Tellings.Told.{store_of}
 use Rattle.tree_ckpt.specs.Making.{Making}
 use Rattle.session_facts.specs.Machines.TreeCheckpoints.Knows.{leases_of_making, leases_next as leases_making}
 use Rattle.session_facts.proofs.Machines.TreeCheckpoints.Hands.{making_handles, making_home_handles}

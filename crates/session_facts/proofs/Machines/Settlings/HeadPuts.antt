@@ -3,9 +3,7 @@ use Rattle.std.proofs.Common.{◌≡◌, ℕ, Bool, true, false, List, [], ◌�
 use Rattle.std.specs.Prelude.{unwrap_or}
 use Rattle.ckpt_parts.specs.Deleting.{next_id}
 use Rattle.ckpt_parts.specs.Leasing.{newest_lease}
-use Rattle.cloud_trait.specs.Ask.{Ask, GetHeld, PutHeld}
-use Rattle.cloud_trait.specs.Claim.{Claim}
-use Rattle.db_base.specs.declared.names.ObjName.{ObjName}
+use Rattle.cloud_facts.specs.Words.{ObjName, Claim, Ask, GetHeld, PutHeld, Store}
 use Rattle.db_base.specs.declared.names.ObjName.TheVariants as object
 use Rattle.cloud_facts.specs.Homes.Homes.{Part}
 use Rattle.session_facts.proofs.Machines.Openings.HeadPuts.{opening_puts}
@@ -17,7 +15,6 @@ use Rattle.settle_run.specs.Settling.{Settling, settle_ask}
 use Rattle.session_facts.specs.Machines.Settlings.HeadPuts.{IsAtClient, PutsHead}
 use Rattle.session_facts.specs.Machines.Settlings.Knows.{KnowsAtWork, KnowsSettling}
 use Rattle.split_plan.specs.declared.put_list.PagePut.{PagePut}
-use Rattle.cloud_facts.specs.Book.Tally.{Store}
 use Rattle.tree_ckpt.specs.Making.{Making, making_ask}
 use Rattle.tree_ckpt.specs.declared.work.Work.{Work}
 use Rattle.tree_ckpt.specs.declared.work.Work.TheVariants.{TakingTree, GettingTree, Receiving, Descending, TakingPage, Folding, ReleasingPage, LeftPage, Rising, Deleting, Releasing, Finished}

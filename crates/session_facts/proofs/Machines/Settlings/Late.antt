@@ -1,26 +1,15 @@
 -- A settling that waits for records under a lease that is over gives this lease back next.
 use Rattle.std.proofs.Common.{◌≡◌, ◌⊎◌, inl, inr, ℕ, List, Some, None, sym, subst, ◌∙◌}
-use Rattle.cloud_facts.specs.Book.Book.{Book}
-use Rattle.cloud_facts.specs.Book.Tally.{Store}
-use Rattle.cloud_facts.specs.Calls.Standing.{StandsUnder}
+use Rattle.cloud_facts.specs.Words.{Trouble, Entry, Answer, CloudState, Caller, Seen, Claim, Ask, Release, Next, Goes, Ends, Stops, Book, Store, store_of, StandsUnder}
 use Rattle.cloud_facts.specs.Homes.Homes.{Part, PartHolds}
-use Rattle.cloud_facts.specs.Tellings.Told.{store_of}
-use Rattle.cloud_trait.specs.declared.answer.Answer.{Answer}
 use Rattle.cloud_trait.specs.declared.turn.CkptAnswer.{CkptAnswer}
-use Rattle.cloud_trait.specs.Ask.{Ask, Release}
-use Rattle.cloud_trait.specs.Caller.{Caller}
-use Rattle.cloud_trait.specs.Claim.{Claim, IsOver}
-use Rattle.cloud_trait.specs.Machine.{Next, Goes, Ends, Stops}
-use Rattle.cloud_trait.specs.Seen.{Seen}
-use Rattle.cloud_trait.specs.State.{CloudState}
+use Rattle.cloud_trait.specs.Claim.{IsOver}
 use Rattle.cloud_trait.specs.Weather.{Makes, Rose}
 use Rattle.db_base.specs.declared.trouble.Counter.{Counter}
-use Rattle.db_base.specs.declared.trouble.Trouble.{Trouble}
 use Rattle.db_base.specs.declared.trouble.Trouble.TheVariants as trouble
 use Rattle.page_ckpt.specs.Paging.{Paging, paging_ask, PagingLeads}
 use Rattle.recover_run.specs.declared.stage.RecoverAnswer.{RecoverAnswer}
 use Rattle.recover_run.specs.Recovery.{Recovery, recovery_ask, recovery_next, IsSound}
-use Rattle.report_types.specs.declared.entry.Entry.{Entry}
 use Rattle.session_facts.specs.Machines.Openings.Knows.{KnowsOpening, leases_of_recovery}
 use Rattle.session_facts.specs.Machines.PageCheckpoints.Knows.{KnowsPaging, leases_of_paging}
 use Rattle.session_facts.specs.Sessions.Explains.{trouble_of_recovery, trouble_of_making, trouble_of_part, MeetsNext, ReceivesLate}

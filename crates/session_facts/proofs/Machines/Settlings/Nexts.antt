@@ -1,9 +1,7 @@
 -- What is known where a part goes on, ends or stops is known of the settling.
 use Rattle.std.proofs.Common.{◌≡◌, ◌+◌, ℕ, zero, suc, List, [], Some, refl, sym, arith}
-use Rattle.cloud_trait.specs.declared.answer.Answer.{Answer}
-use Rattle.cloud_trait.specs.Claim.{Claim}
-use Rattle.cloud_trait.specs.Machine.{Next, Goes, Ends, Stops}
-use Rattle.db_base.specs.Ids.{IsClient, IsTree, IsPage}
+use Rattle.cloud_facts.specs.Words.{IsClient, IsTree, Answer, Claim, Next, Goes, Ends, Stops, Store}
+use Rattle.db_base.specs.Ids.{IsPage}
 use Rattle.cloud_facts.specs.Homes.Homes.{Part, Away}
 use Rattle.leaf_view.specs.Lookup.{page_at}
 use Rattle.settle_run.specs.declared.part.Part.{Part as AtWork}
@@ -15,7 +13,6 @@ use Rattle.settle_run.proofs.Outcomes as step
 use Rattle.session_facts.specs.Machines.Settlings.Knows.{KnowsAtWork, leases_at_work, leases_next}
 use Rattle.session_facts.proofs.Machines.Settlings.Anew.{BeginsAnew, passed_anew, each_anew}
 use Rattle.session_facts.proofs.Machines.Settlings.Begins.{client_begins, tree_begins, page_begins}
-use Rattle.cloud_facts.specs.Book.Tally.{Store}
 
 -- ---- where a step of a part leads
 

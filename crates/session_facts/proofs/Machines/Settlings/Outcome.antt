@@ -2,16 +2,12 @@
 use Rattle.std.proofs.Common.{◌≡◌, ℕ, List, Option, None, refl, sym, ap, subst, ◌∙◌}
 use Rattle.std.proofs.lemmas.List.{append-nil}
 use Rattle.cloud_facts.specs.Calls.Acting.{Setting, Outcome, Aside}
-use Rattle.cloud_facts.specs.Calls.Call.{IsCall}
+use Rattle.cloud_facts.specs.Words.{IsClient, IsTree, Entry, Answer, CloudState, Caller, Ask, Get, GetHeld, PutHeld, Send, Receive, Delete, Take, Renew, Release, Next, Goes, Ends, Stops, Book, Store, store_of, IsCall}
 use Rattle.cloud_facts.proofs.Calls.Outcomes.{weaker}
-use Rattle.cloud_trait.specs.declared.answer.Answer.{Answer}
 use Rattle.cloud_trait.specs.declared.turn.CkptAnswer.{CkptAnswer}
-use Rattle.cloud_trait.specs.Ask.{Ask, Get, GetHeld, PutHeld, ListHeld, RemoveHeld, Send, Receive, Delete, Take, Renew, Release}
-use Rattle.cloud_trait.specs.Caller.{Caller}
-use Rattle.cloud_trait.specs.Machine.{Next, Goes, Ends, Stops}
-use Rattle.cloud_trait.specs.State.{CloudState}
+use Rattle.cloud_trait.specs.Ask.{ListHeld, RemoveHeld}
 use Rattle.cloud_trait.specs.Weather.{Fits}
-use Rattle.db_base.specs.Ids.{IsClient, IsTree, IsPage}
+use Rattle.db_base.specs.Ids.{IsPage}
 use Rattle.db_base.specs.declared.names.ObjName.TheVariants as object
 use Rattle.history.specs.Audited.{Audited}
 use Rattle.cloud_facts.specs.Homes.Homes.{Part, Parts, Away}
@@ -23,7 +19,6 @@ use Rattle.session_facts.proofs.Machines.PageCheckpoints.Outcome.{paging_outcome
 use Rattle.recover_run.specs.declared.home.Home.{Home}
 use Rattle.recover_run.specs.declared.stage.Aim.TheVariants as aim
 use Rattle.recover_run.specs.Recovery.{Recovery, Step as RecoveryStep, recovery_ask, recovery_next, home_of}
-use Rattle.report_types.specs.declared.entry.Entry.{Entry}
 use Rattle.settle_run.specs.declared.part.Part.{Part as AtWork}
 use Rattle.settle_run.specs.declared.part.Part.TheVariants.{Client, Tree, Page}
 use Rattle.settle_run.specs.Parts.{part_ask, IsSoundPart, recovers, makes, pages}
@@ -35,10 +30,7 @@ use Rattle.session_facts.proofs.Machines.Settlings.Rights.{way_stays}
 use Rattle.session_facts.proofs.Machines.Settlings.Ways.{WayIn, part_way, moved_way}
 use Rattle.session_facts.proofs.Machines.Settlings.Recoveries.{KeepsClient, recovery_keeps}
 use Rattle.session_facts.proofs.Machines.Settlings.Others.{at_work_later}
-use Rattle.cloud_facts.specs.Book.Book.{Book}
 use Rattle.cloud_facts.specs.Book.Growth.{Grows}
-use Rattle.cloud_facts.specs.Book.Tally.{Store}
-use Rattle.cloud_facts.specs.Tellings.Told.{store_of}
 use Rattle.tree_ckpt.specs.Making.{Making, MakingLeads, making_ask}
 use Rattle.session_facts.specs.Machines.TreeCheckpoints.Knows.{KnowsMakingNext, KnowsAfter as KnowsMade, leases_of_making, making_note}
 use Rattle.session_facts.proofs.Machines.TreeCheckpoints.Outcome.{making_outcome}

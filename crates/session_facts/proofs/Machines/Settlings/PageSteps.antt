@@ -3,17 +3,10 @@ use Rattle.std.proofs.Common.{◌≡◌, ℕ, List, Option, Some, None, Result, 
 use Rattle.ckpt_parts.specs.Intakes.{items_of, message_damage, TakesItems, TakesIn}
 use Rattle.ckpt_parts.specs.Leaves.{HoldsLinked}
 use Rattle.ckpt_parts.specs.declared.intake.Intake.{Intake}
-use Rattle.cloud_trait.specs.declared.answer.Answer.{Answer}
+use Rattle.cloud_facts.specs.Words.{Trouble, QueueName, Lock, PuItem, Leaf, Answer, Goes, Ends, Stops, done_of, got_of, given_of, received_of}
 use Rattle.cloud_trait.specs.declared.answer.Answer.TheVariants.{Got}
 use Rattle.cloud_trait.specs.declared.message.Message.{Message}
-use Rattle.cloud_trait.specs.Machine.{Goes, Ends, Stops}
-use Rattle.cloud_trait.specs.Views.{given_of, got_of, received_of, done_of}
-use Rattle.db_base.specs.declared.names.Lock.{Lock}
 use Rattle.db_base.specs.declared.names.Lock.TheVariants as lock
-use Rattle.db_base.specs.declared.names.QueueName.{QueueName}
-use Rattle.db_base.specs.declared.trouble.Trouble.{Trouble}
-use Rattle.leaf_view.specs.Leaf.{Leaf}
-use Rattle.log_codec.specs.declared.record.PuItem.{PuItem}
 use Rattle.page_ckpt.specs.Paging.{Paging, Step, own_queue, HoldsNamed, PagingLeads}
 use Rattle.page_ckpt.specs.declared.link.Link.{Link}
 use Rattle.page_ckpt.specs.declared.stage.Stage.TheVariants.{GettingHome, GettingRight}

@@ -1,14 +1,10 @@
 -- The way of a settling to the right: it stays what it is while the cloud grows, and leads to no page twice.
 use Rattle.std.proofs.Common.{◌≡◌, ◌∙◌, ℕ, zero, suc, false, List, [], ◌∷◌, ◌++◌, Some, None, refl, ap, subst}
 use Rattle.std.specs.Prelude.{slice_get}
-use Rattle.cloud_facts.specs.Book.Book.{Link}
+use Rattle.cloud_facts.specs.Words.{Trouble, Leaf, Link, Store, Leafy, IsIn}
 use Rattle.cloud_facts.specs.Book.Growth.{Grows}
-use Rattle.cloud_facts.specs.Book.Records.{IsIn}
-use Rattle.cloud_facts.specs.Book.Tally.{Leafy, Store}
 use Rattle.cloud_facts.specs.Chains.Chain.{AreLevels, AreVersions, NamesRight}
 use Rattle.cloud_facts.specs.Chains.Links.{first_link}
-use Rattle.db_base.specs.declared.trouble.Trouble.{Trouble}
-use Rattle.leaf_view.specs.Leaf.{Leaf}
 use Rattle.leaf_view.specs.Lookup.{page_at}
 use Rattle.page_ckpt.specs.Paging.{new_paging}
 use Rattle.session_facts.specs.Machines.PageCheckpoints.Rights.{IsLanded, IsUptoLink}

@@ -1,15 +1,9 @@
 -- Why a settling stops: for no object that is damaged, no fence, no way, no page and no stale read.
 use Rattle.std.proofs.Common.{◌≡◌, ◌∙◌, ℕ, true, false, List, Some, sym, subst}
 use Rattle.cloud_facts.specs.Calls.Acting.{Setting}
-use Rattle.cloud_facts.specs.Calls.Call.{IsCall}
-use Rattle.cloud_trait.specs.declared.answer.Answer.{Answer}
+use Rattle.cloud_facts.specs.Words.{Trouble, Entry, Answer, CloudState, Caller, Claim, Next, Goes, Ends, Stops, Book, Store, store_of, IsCall}
 use Rattle.cloud_trait.specs.declared.turn.CkptAnswer.{CkptAnswer}
-use Rattle.cloud_trait.specs.Caller.{Caller}
-use Rattle.cloud_trait.specs.Claim.{Claim}
-use Rattle.cloud_trait.specs.Machine.{Next, Goes, Ends, Stops}
-use Rattle.cloud_trait.specs.State.{CloudState}
 use Rattle.db_base.specs.declared.trouble.Counter.TheVariants as counter
-use Rattle.db_base.specs.declared.trouble.Trouble.{Trouble}
 use Rattle.db_base.specs.declared.trouble.Trouble.TheVariants as trouble
 use Rattle.cloud_facts.specs.Homes.Homes.{Parts}
 use Rattle.leaf_view.specs.Lookup.{page_at}
@@ -20,7 +14,6 @@ use Rattle.session_facts.specs.Machines.PageCheckpoints.Knows.{MayStopPage}
 use Rattle.session_facts.proofs.Machines.PageCheckpoints.Outcome.{paging_stops}
 use Rattle.recover_run.specs.declared.stage.RecoverAnswer.{RecoverAnswer}
 use Rattle.recover_run.specs.Recovery.{Recovery, recovery_next}
-use Rattle.report_types.specs.declared.entry.Entry.{Entry}
 use Rattle.session_facts.specs.Sessions.Stops.{MaySettle}
 use Rattle.session_facts.specs.Machines.Settlings.Knows.{IsOfNoPage, KnowsAtWork, KnowsSettling, leases_at_work, leases_of_settling}
 use Rattle.session_facts.proofs.Machines.Settlings.Ways.{PartWay, part_way, unvisited}
@@ -30,9 +23,6 @@ use Rattle.settle_run.specs.Parts.{part_ask, recovers, makes, pages, PartLeads}
 use Rattle.settle_run.specs.Settling.{Settling, Step, settle_ask, is_visited, counted, with_part, SettleLeads}
 use Rattle.settle_run.proofs.Outcomes.{Passes, passes_by, Comes, came_by}
 use Rattle.settle_run.proofs.Outcomes as step
-use Rattle.cloud_facts.specs.Book.Book.{Book}
-use Rattle.cloud_facts.specs.Book.Tally.{Store}
-use Rattle.cloud_facts.specs.Tellings.Told.{store_of}
 use Rattle.tree_ckpt.specs.Making.{Making, MakingLeads}
 use Rattle.session_facts.specs.Machines.TreeCheckpoints.Knows.{MayStopTree}
 use Rattle.session_facts.proofs.Machines.TreeCheckpoints.Outcome.{making_stops}

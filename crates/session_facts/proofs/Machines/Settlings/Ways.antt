@@ -2,33 +2,19 @@
 use Rattle.std.proofs.Common.{◌≡◌, ◌∙◌, ℕ, suc, false, List, Option, Some, Result, Ok, Err, refl, sym, ap, subst, arith}
 use Rattle.ckpt_parts.specs.Leaves.{HoldsLinked}
 use Rattle.ckpt_parts.specs.declared.leases.Leases.{Leases}
-use Rattle.cloud_facts.specs.Book.Book.{Book, Link}
-use Rattle.cloud_facts.specs.Book.Tally.{Store}
-use Rattle.cloud_facts.specs.Book.Telling.{nodes_of, roots_of, newest_leaf, newest_root}
+use Rattle.cloud_facts.specs.Words.{IsTree, Trouble, Entry, Leaf, Answer, CloudState, newest, Caller, Claim, Ask, GetHeld, Next, Goes, Ends, Stops, got_of, Book, Link, Store, nodes_of, roots_of, store_of, IsCall}
+use Rattle.cloud_facts.specs.Book.Telling.{newest_leaf, newest_root}
 use Rattle.cloud_facts.specs.Calls.Acting.{Setting}
-use Rattle.cloud_facts.specs.Calls.Call.{IsCall}
 use Rattle.cloud_facts.proofs.Calls.Heads.{held_seen}
 use Rattle.cloud_facts.specs.Chains.Chain.{IsChained}
 use Rattle.cloud_facts.specs.Homes.Homes.{Parts}
-use Rattle.cloud_facts.specs.Tellings.Told.{store_of}
-use Rattle.cloud_trait.specs.Ask.{Ask, GetHeld}
-use Rattle.cloud_trait.specs.Caller.{Caller}
-use Rattle.cloud_trait.specs.Claim.{Claim}
-use Rattle.cloud_trait.specs.Machine.{Next, Goes, Ends, Stops}
-use Rattle.cloud_trait.specs.State.{CloudState, newest}
-use Rattle.cloud_trait.specs.Views.{got_of}
-use Rattle.cloud_trait.specs.declared.answer.Answer.{Answer}
 use Rattle.cloud_trait.specs.declared.turn.CkptAnswer.{CkptAnswer}
-use Rattle.db_base.specs.Ids.{IsTree}
-use Rattle.db_base.specs.declared.trouble.Trouble.{Trouble}
 use Rattle.db_base.specs.declared.trouble.Trouble.TheVariants as trouble
-use Rattle.leaf_view.specs.Leaf.{Leaf}
 use Rattle.leaf_view.specs.Lookup.{page_at}
 use Rattle.page_ckpt.specs.Paging.{Paging, Step as PageStep, ask_at, paging_ask, under, home_name, right_name, HoldsNamed, PagingLeads}
 use Rattle.page_ckpt.specs.declared.stage.Stage.{Stage}
 use Rattle.page_ckpt.specs.declared.stage.Stage.TheVariants.{GettingHome, GettingRight}
 use Rattle.recover_run.specs.Recovery.{Step as RecoveryStep}
-use Rattle.report_types.specs.declared.entry.Entry.{Entry}
 use Rattle.session_facts.specs.Machines.PageCheckpoints.Knows.{HasPage, HasRight, MayStopPage, ComesOn, KnowsPagingAt, KnowsPaging}
 use Rattle.session_facts.specs.Machines.PageCheckpoints.Rights.{IsLanded}
 use Rattle.session_facts.proofs.Machines.PageCheckpoints.Fences.{newest_landed}

@@ -1,18 +1,10 @@
 -- A sweep from call to call, by the cloud that it began over: it leaves all but pages that nothing reached, and once none of these is left, just the reached
 -- pages have bytes, also behind the release that it ends with.
 use Rattle.std.proofs.Common.{◌≡◌, ℕ, List, Option, Some, None, sym, subst, ◌∙◌}
-use Rattle.cloud_facts.specs.Book.Book.{Book}
-use Rattle.cloud_facts.specs.Calls.Call.{IsCall}
-use Rattle.cloud_facts.specs.Calls.Standing.{StandsUnder}
+use Rattle.cloud_facts.specs.Words.{Entry, Answer, CloudState, called, Caller, Claim, Lasts, Goes, Ends, Stops, Book, store_of, IsCall, StandsUnder}
 use Rattle.cloud_facts.specs.Homes.Homes.{Part}
-use Rattle.cloud_facts.specs.Tellings.Told.{store_of}
 use Rattle.cloud_trait.proofs.RowLemmas.{row_versions}
 use Rattle.cloud_trait.specs.Ask.{PutsNothing}
-use Rattle.cloud_trait.specs.Caller.{Caller}
-use Rattle.cloud_trait.specs.Claim.{Claim, Lasts}
-use Rattle.cloud_trait.specs.Machine.{Goes, Ends, Stops}
-use Rattle.cloud_trait.specs.State.{CloudState, called}
-use Rattle.cloud_trait.specs.declared.answer.Answer.{Answer}
 use Rattle.cloud_trait.specs.declared.answer.Answer.TheVariants.{Done}
 use Rattle.orphan_sweep.proofs.Outcomes.{leased, Clears, listed, removed, Comes, takes, refused, stops, reads_on, has_read, removes, rests, ends, stopped, nothing, came_by}
 use Rattle.orphan_sweep.specs.declared.stage.Stage.{Stage}
@@ -20,7 +12,6 @@ use Rattle.orphan_sweep.specs.declared.stage.Stage.TheVariants.{Removing, Releas
 use Rattle.orphan_sweep.specs.declared.swept.Swept.{Swept}
 use Rattle.orphan_sweep.specs.Leases.{HoldsAt}
 use Rattle.orphan_sweep.specs.Sweeping.{Sweeping, Step, remove_next, ask_at, sweep_ask, sweep_next}
-use Rattle.report_types.specs.declared.entry.Entry.{Entry}
 use Rattle.session_facts.specs.Machines.Sweeps.Remains.{Remains, AreJustReached}
 use Rattle.session_facts.specs.Machines.Sweeps.Knows.{IsCleared, KnowsAt, KnowsSweep}
 use Rattle.session_facts.proofs.Machines.Sweeps.Asks.{same_tree}

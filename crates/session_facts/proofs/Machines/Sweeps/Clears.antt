@@ -4,25 +4,19 @@ use Rattle.std.specs.Prelude.{slice_get, not, Contains, IsSome}
 use Rattle.std.proofs.lemmas.Bool.{ltb-true, ltb-false}
 use Rattle.std.proofs.lemmas.List.Elements.{All-contains}
 use Rattle.std.proofs.lemmas.Option.{slice_get_within, get_or_from_slice_get}
-use Rattle.cloud_facts.specs.Book.Book.{Book, Link}
+use Rattle.cloud_facts.specs.Words.{Entry, CloudState, newest, Book, Link, Store, IsIn, StandsAt, nodes_of, store_of, StandsUnder}
 use Rattle.cloud_facts.specs.Book.Effects.{after_removal}
 use Rattle.cloud_facts.specs.Book.Premises.{Removes}
-use Rattle.cloud_facts.specs.Book.Records.{StandsAt, IsIn}
-use Rattle.cloud_facts.specs.Book.Tally.{Store}
-use Rattle.cloud_facts.specs.Book.Telling.{nodes_of, gone_of}
-use Rattle.cloud_facts.specs.Calls.Standing.{StandsUnder}
-use Rattle.cloud_facts.specs.Tellings.Told.{store_of}
+use Rattle.cloud_facts.specs.Book.Telling.{gone_of}
 use Rattle.cloud_facts.proofs.Audits.Visits.{contains_in}
 use Rattle.cloud_facts.proofs.Calls.Pages.{none_landed, some_landed}
 use Rattle.cloud_facts.proofs.Chains.Pieces.{none_in, in_cases}
 use Rattle.cloud_facts.proofs.Decoding.Newest.{newest_last, last_there}
 use Rattle.cloud_facts.proofs.Tellings.Names.{at2_same, at2_beside}
 use Rattle.cloud_trait.specs.Listing.{AscendAbove, IsListing}
-use Rattle.cloud_trait.specs.State.{CloudState, newest}
 use Rattle.db_base.specs.declared.names.ObjName.TheVariants as object
 use Rattle.orphan_sweep.proofs.Lists.{ascends, stray_at}
 use Rattle.orphan_sweep.specs.Sweeping.{is_among, strays}
-use Rattle.report_types.specs.declared.entry.Entry.{Entry}
 use Rattle.session_facts.specs.Machines.Sweeps.Places.{AreAll}
 use Rattle.session_facts.specs.Machines.Sweeps.Knows.{IsClearing}
 use Rattle.session_facts.proofs.Machines.Sweeps.Places.{among_in, in_among}

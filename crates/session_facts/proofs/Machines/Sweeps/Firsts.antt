@@ -2,14 +2,11 @@
 use Rattle.std.proofs.Common.{◌≡◌, ◌-◌, ℕ, zero, suc, nat_lt, Bool, true, false, List, [], ◌∷◌, Some, None, refl, sym, ap, subst, ◌∙◌}
 use Rattle.std.proofs.lemmas.Bool.{ltb-true, ltb-false}
 use Rattle.byte_format.specs.Order.{bytes_below}
-use Rattle.cloud_facts.specs.Book.Book.{Link}
-use Rattle.cloud_facts.specs.Book.Records.{StandsAt, IsIn}
-use Rattle.cloud_facts.specs.Book.Tally.{Node}
+use Rattle.cloud_facts.specs.Words.{Tree, Link, Node, IsIn, StandsAt}
 use Rattle.cloud_facts.specs.Chains.Chain.{IsChained}
 use Rattle.cloud_facts.specs.Chains.Links.{Ascends, link_of, top_of, NamesBelow}
 use Rattle.cloud_facts.proofs.Chains.Pieces.{none_stands, none_in, ascend_all, not_itself, apart_of, one_place}
 use Rattle.node_codec.specs.Node.{Entry}
-use Rattle.node_codec.specs.Tree.{Tree}
 use Rattle.orphan_sweep.specs.Pages.{first_page}
 use Rattle.orphan_sweep.specs.Sweeping.{is_among}
 use Rattle.session_facts.specs.Machines.Sweeps.Places.{IsUptoPlace, AreUpto}

@@ -1,19 +1,12 @@
 -- The lease that a sweep's call names is its own and guards what it removes, and none is new but the one that it was given.
 use Rattle.std.proofs.Common.{◌≡◌, ◌≤◌, inl, inr, ℕ, zero, List, [], ◌∷◌, Option, Some, None, refl, sym, ap, subst}
-use Rattle.cloud_facts.specs.Book.Records.{IsIn}
-use Rattle.cloud_facts.specs.Book.Tally.{Store}
+use Rattle.cloud_facts.specs.Words.{Trouble, Answer, CloudState, Caller, Claim, Take, Store, IsIn}
 use Rattle.cloud_facts.specs.Calls.Acting.{Handles}
 use Rattle.cloud_facts.specs.Homes.Homes.{Part}
 use Rattle.cloud_facts.specs.Leases.Leases.{GainedBy}
 use Rattle.cloud_facts.proofs.Book.Places.{get_single, in_none}
-use Rattle.cloud_trait.specs.declared.answer.Answer.{Answer}
 use Rattle.cloud_trait.specs.declared.answer.Answer.TheVariants.{Given}
-use Rattle.cloud_trait.specs.Ask.{Take}
-use Rattle.cloud_trait.specs.Caller.{Caller}
-use Rattle.cloud_trait.specs.Claim.{Claim}
-use Rattle.cloud_trait.specs.State.{CloudState}
 use Rattle.db_base.specs.declared.names.Lock.TheVariants as lock
-use Rattle.db_base.specs.declared.trouble.Trouble.{Trouble}
 use Rattle.orphan_sweep.proofs.Outcomes.{leased, Onward, Clears, Fails, Comes, came_by}
 use Rattle.orphan_sweep.proofs.Outcomes as step
 use Rattle.orphan_sweep.specs.declared.spot.Spot.{Spot}

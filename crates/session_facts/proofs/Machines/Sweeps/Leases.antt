@@ -1,16 +1,9 @@
 -- The lease of a sweep: its calls use no other, and behind each call it holds what the calls left.
 use Rattle.std.proofs.Common.{◌≡◌, List, [], ◌∷◌, ℕ, Option, Some, None, Err, refl, sym}
 use Rattle.ckpt_parts.specs.Leasing.{outstanding_after}
-use Rattle.cloud_facts.specs.Book.Records.{IsIn}
-use Rattle.cloud_facts.specs.Book.Tally.{Store}
-use Rattle.cloud_trait.specs.declared.answer.Answer.{Answer}
+use Rattle.cloud_facts.specs.Words.{Trouble, Lock, Answer, Claim, Take, given_of, Store, IsIn}
 use Rattle.cloud_trait.specs.declared.answer.Answer.TheVariants.{Given}
-use Rattle.cloud_trait.specs.Ask.{Take}
-use Rattle.cloud_trait.specs.Claim.{Claim}
-use Rattle.cloud_trait.specs.Views.{given_of}
-use Rattle.db_base.specs.declared.names.Lock.{Lock}
 use Rattle.db_base.specs.declared.names.Lock.TheVariants as lock
-use Rattle.db_base.specs.declared.trouble.Trouble.{Trouble}
 use Rattle.orphan_sweep.proofs.Outcomes.{Onward, from_root, from_page, Clears, listed, removed, Fails, no_root, no_page, no_list, not_removed, bad_root, bad_page, round, Comes, takes, refused, stops, reads_on, has_read, removes, rests, ends, stopped, nothing, came_by}
 use Rattle.orphan_sweep.specs.declared.spot.Spot.{Spot}
 use Rattle.orphan_sweep.specs.declared.stage.Stage.{Stage}

@@ -1,18 +1,10 @@
 -- Where the answer to a call of a sweep leads, by what was known before it and by what it brought.
 use Rattle.std.proofs.Common.{◌≡◌, ◌≤◌, ◌⊎◌, inl, inr, ℕ, length, Option, Some, None, Result, Err, refl, sym, ap, subst, ◌∙◌, arith}
-use Rattle.cloud_facts.specs.Book.Tally.{Store}
-use Rattle.cloud_facts.specs.Calls.Call.{IsCall}
+use Rattle.cloud_facts.specs.Words.{IsTree, Trouble, Lock, Answer, CloudState, Caller, Claim, done_of, got_of, given_of, Store, IsCall}
 use Rattle.cloud_facts.specs.Homes.Homes.{Part}
-use Rattle.cloud_trait.specs.declared.answer.Answer.{Answer}
 use Rattle.cloud_trait.specs.declared.answer.Answer.TheVariants.{Got, Sent, Received, Listed, Done, Given, Held, Renewed, Late, Failed, Memory}
-use Rattle.cloud_trait.specs.Caller.{Caller}
-use Rattle.cloud_trait.specs.Claim.{Claim}
-use Rattle.cloud_trait.specs.State.{CloudState}
-use Rattle.cloud_trait.specs.Views.{trouble_of, given_of, got_of, listed_of, done_of}
-use Rattle.db_base.specs.Ids.{IsTree}
-use Rattle.db_base.specs.declared.names.Lock.{Lock}
+use Rattle.cloud_trait.specs.Views.{trouble_of, listed_of}
 use Rattle.db_base.specs.declared.names.Lock.TheVariants as lock
-use Rattle.db_base.specs.declared.trouble.Trouble.{Trouble}
 use Rattle.db_base.specs.declared.trouble.Trouble.TheVariants as trouble
 use Rattle.orphan_sweep.proofs.Lists.{past}
 use Rattle.orphan_sweep.proofs.Outcomes.{leased, Onward, Clears, Fails, Comes}

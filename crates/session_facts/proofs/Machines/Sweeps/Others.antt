@@ -1,16 +1,13 @@
 -- What a sweep knows survives the calls of others.
 use Rattle.std.proofs.Common.{◌≡◌, ◌≢◌, ◌≤◌, inl, ℕ, zero, List, [], ◌∷◌, ◌++◌, Option, Some, None, refl, sym, subst, ◌∙◌, arith}
-use Rattle.cloud_facts.specs.Book.Book.{Link}
+use Rattle.cloud_facts.specs.Words.{Claim, Lasts, Link, Store, IsIn}
 use Rattle.cloud_facts.specs.Book.Growth.{Grows}
-use Rattle.cloud_facts.specs.Book.Records.{IsIn}
-use Rattle.cloud_facts.specs.Book.Tally.{Store}
 use Rattle.cloud_facts.specs.Calls.Acting.{HasLeaseOf}
 use Rattle.cloud_facts.specs.Calls.Links.{SameGone}
 use Rattle.cloud_facts.specs.Calls.Others.{Others}
 use Rattle.cloud_facts.specs.Chains.Chain.{IsUnlinked}
 use Rattle.cloud_facts.specs.Homes.Homes.{Part}
 use Rattle.cloud_facts.proofs.Calls.Guarding.{others_itself}
-use Rattle.cloud_trait.specs.Claim.{Claim, Lasts}
 use Rattle.cloud_trait.specs.Growth.{BeginsWith}
 use Rattle.db_base.specs.declared.names.Lock.TheVariants as lock
 use Rattle.orphan_sweep.specs.declared.stage.Stage.{Stage}

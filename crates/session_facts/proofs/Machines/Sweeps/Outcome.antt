@@ -2,32 +2,18 @@
 use Rattle.std.proofs.Common.{◌≡◌, ◌⊎◌, inl, inr, ℕ, zero, List, [], ◌∷◌, Option, Some, None, Ok, refl, sym, subst, ◌∙◌, arith}
 use Rattle.std.specs.Prelude.{slice_get}
 use Rattle.std.proofs.lemmas.Option.{slice_get_within}
-use Rattle.cloud_facts.specs.Book.Book.{Book}
+use Rattle.cloud_facts.specs.Words.{IsTree, Trouble, ObjName, Entry, Tree, Answer, CloudState, called, Caller, Claim, Lasts, Ask, Stops, done_of, Book, Store, at, nodes_of, roots_of, store_of, IsCall, StandsUnder}
 use Rattle.cloud_facts.specs.Book.Effects.{after_removal}
-use Rattle.cloud_facts.specs.Book.Tally.{Store, at}
-use Rattle.cloud_facts.specs.Book.Telling.{nodes_of, roots_of}
 use Rattle.cloud_facts.specs.Calls.Acting.{Setting, Outcome}
-use Rattle.cloud_facts.specs.Calls.Call.{IsCall}
-use Rattle.cloud_facts.specs.Calls.Standing.{StandsUnder}
 use Rattle.cloud_facts.specs.Chains.Chain.{IsChained}
 use Rattle.cloud_facts.specs.Chains.Links.{top_of}
 use Rattle.cloud_facts.specs.Homes.Homes.{Part, Parts, HomesHold}
 use Rattle.cloud_facts.specs.Landings.Landing.{removes}
-use Rattle.cloud_facts.specs.Tellings.Told.{store_of}
 use Rattle.cloud_facts.proofs.Calls.Outcomes.{stays, other_landed, quiet}
 use Rattle.cloud_facts.proofs.Homes.HomeLemmas.{keeps_part, aside_keeps}
-use Rattle.cloud_trait.specs.declared.answer.Answer.{Answer}
 use Rattle.cloud_trait.specs.declared.answer.Answer.TheVariants.{Got, Sent, Received, Listed, Done, Given, Held, Renewed, Late, Failed, Memory}
-use Rattle.cloud_trait.specs.Ask.{Ask, RemoveHeld, Lands, PutsNothing, TouchesNoMessage}
-use Rattle.cloud_trait.specs.Caller.{Caller}
-use Rattle.cloud_trait.specs.Claim.{Claim, Lasts}
-use Rattle.cloud_trait.specs.Machine.{Stops}
-use Rattle.cloud_trait.specs.State.{CloudState, called}
-use Rattle.cloud_trait.specs.Views.{done_of}
-use Rattle.db_base.specs.Ids.{IsTree}
-use Rattle.db_base.specs.declared.names.ObjName.{ObjName}
+use Rattle.cloud_trait.specs.Ask.{RemoveHeld, Lands, PutsNothing, TouchesNoMessage}
 use Rattle.db_base.specs.declared.names.ObjName.TheVariants as object
-use Rattle.db_base.specs.declared.trouble.Trouble.{Trouble}
 use Rattle.orphan_sweep.proofs.Outcomes.{leased, Onward, Clears, Fails, comes}
 use Rattle.orphan_sweep.proofs.Outcomes as step
 use Rattle.orphan_sweep.specs.declared.paths.Paths.{Paths}
@@ -37,8 +23,6 @@ use Rattle.orphan_sweep.specs.declared.stage.Stage.TheVariants.{TakingTree, Gett
 use Rattle.orphan_sweep.specs.Pages.{top_spot, onward}
 use Rattle.orphan_sweep.specs.Leases.{claims_of}
 use Rattle.orphan_sweep.specs.Sweeping.{Sweeping, next_orphan, remove_next, ask_at, sweep_ask, handed, absorbed_at, sweep_next}
-use Rattle.node_codec.specs.Tree.{Tree}
-use Rattle.report_types.specs.declared.entry.Entry.{Entry}
 use Rattle.session_facts.specs.Machines.Sweeps.Knows.{IsClearing, MayStopSweep, KnowsAt, KnowsSweep, KnowsNext, KnowsAfter, leases_of_sweep}
 use Rattle.session_facts.proofs.Machines.Sweeps.Clears.{listing_clears, removal_clears}
 use Rattle.session_facts.proofs.Machines.Sweeps.Onward.{GoesOnTo, begins_at, page_goes}

@@ -2,15 +2,12 @@
 use Rattle.std.proofs.Common.{◌≡◌, ◌≢◌, ◌+◌, ◌-◌, ◌<◌, ◌≤◌, inl, inr, ℕ, zero, suc, nat_lt, Bool, true, false, List, [], ◌∷◌, Option, Some, None, refl, sym, ap, subst, ◌∙◌, arith}
 use Rattle.std.specs.Prelude.{slice_get}
 use Rattle.std.proofs.lemmas.Bool.{ltb-true, ltb-false}
-use Rattle.cloud_facts.specs.Book.Book.{Book, Link}
-use Rattle.cloud_facts.specs.Book.Records.{StandsAt, IsIn}
-use Rattle.cloud_facts.specs.Book.Tally.{Node, Leafy, Branch, Store, low_of, right_of}
-use Rattle.cloud_facts.specs.Book.Telling.{last_or, node_in, with_bytes, nodes_of, roots_of, newest_root}
-use Rattle.cloud_facts.specs.Calls.Standing.{StandsUnder}
+use Rattle.cloud_facts.specs.Words.{IsTree, Entry, Tree, CloudState, newest, Book, Link, Store, Node, Leafy, Branch, IsIn, StandsAt, nodes_of, roots_of, store_of, StandsUnder}
+use Rattle.cloud_facts.specs.Book.Tally.{low_of, right_of}
+use Rattle.cloud_facts.specs.Book.Telling.{last_or, node_in, with_bytes, newest_root}
 use Rattle.cloud_facts.specs.Chains.Chain.{IsChained}
 use Rattle.cloud_facts.specs.Chains.Links.{first_link, link_of, newest_node, top_of, page_after, IsOfLevel, NamesBelow, NodeNames}
 use Rattle.cloud_facts.specs.Decoding.Kinds.{IsNode}
-use Rattle.cloud_facts.specs.Tellings.Told.{store_of}
 use Rattle.cloud_facts.proofs.Book.Places.{get_map}
 use Rattle.cloud_facts.proofs.Calls.Pages.{none_landed, no_root}
 use Rattle.cloud_facts.proofs.Chains.GoneLemmas.{links_kept}
@@ -21,15 +18,12 @@ use Rattle.cloud_facts.proofs.Decoding.Newest.{newest_last}
 use Rattle.cloud_facts.proofs.Decoding.Reading.{node_reads}
 use Rattle.cloud_facts.proofs.Decoding.Values.{newest_page_decodes, newest_root_decodes}
 use Rattle.cloud_facts.proofs.Decoding.Versions.{among_those}
-use Rattle.cloud_trait.specs.State.{CloudState, newest}
-use Rattle.db_base.specs.Ids.{IsTree}
 use Rattle.db_base.specs.declared.names.ObjName.TheVariants as object
 use Rattle.leaf_view.specs.Lookup.{empty_leaf}
 use Rattle.node_codec.specs.Node.{Entry as Child}
-use Rattle.node_codec.specs.Tree.{Tree, IsTree as SpellsTree}
+use Rattle.node_codec.specs.Tree.{IsTree as SpellsTree}
 use Rattle.node_codec.proofs.SpellingLaws.{tree_only}
 use Rattle.orphan_sweep.specs.Pages.{first_page as leftmost_child}
-use Rattle.report_types.specs.declared.entry.Entry.{Entry}
 use Rattle.session_facts.specs.Machines.Sweeps.Places.{IsOfLink}
 use Rattle.session_facts.specs.Machines.Sweeps.Reached.{HasBytes, IsNamedIn, IsChildOf, NamesPage, RootNames, PageNames, IsReached, first_page, from_root, from_page}
 use Rattle.session_facts.proofs.Machines.Sweeps.Firsts.{first_below}

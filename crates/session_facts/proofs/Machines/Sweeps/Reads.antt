@@ -4,35 +4,27 @@ use Rattle.std.specs.Prelude.{slice_get}
 use Rattle.std.proofs.lemmas.Bool.{eqb-true, eqb-false, eq-eqb}
 use Rattle.byte_format.proofs.OrderLemmas.{same_itself}
 use Rattle.byte_format.specs.Order.{bytes_same}
-use Rattle.cloud_facts.specs.Book.Book.{Book, Link}
-use Rattle.cloud_facts.specs.Book.Records.{StandsAt, IsIn}
-use Rattle.cloud_facts.specs.Book.Tally.{Node, Leafy, Branch, Store, low_of}
-use Rattle.cloud_facts.specs.Book.Telling.{last_or, leaf_in, nodes_of, gone_of, roots_of, newest_leaf, newest_root}
-use Rattle.cloud_facts.specs.Calls.Standing.{StandsUnder}
+use Rattle.cloud_facts.specs.Words.{IsTree, Trouble, Entry, Leaf, Inner, Tree, CloudState, newest, Book, Link, Store, Node, Leafy, Branch, IsIn, StandsAt, nodes_of, roots_of, store_of, StandsUnder}
+use Rattle.cloud_facts.specs.Book.Tally.{low_of}
+use Rattle.cloud_facts.specs.Book.Telling.{last_or, leaf_in, gone_of, newest_leaf, newest_root}
 use Rattle.cloud_facts.specs.Chains.Chain.{IsChained}
 use Rattle.cloud_facts.specs.Chains.Links.{newest_node, top_of, page_after, low_after, IsOfLevel, EndsBefore, NamesBelow}
 use Rattle.cloud_facts.specs.Decoding.Kinds.{IsNode}
-use Rattle.cloud_facts.specs.Tellings.Told.{store_of}
 use Rattle.cloud_facts.proofs.Calls.Pages.{none_landed, no_root}
 use Rattle.cloud_facts.proofs.Chains.GoneLemmas.{links_kept}
 use Rattle.cloud_facts.proofs.Chains.Newest.{IsNewestOf, newest_is, last_in}
 use Rattle.cloud_facts.proofs.Decoding.Values.{newest_page_decodes, newest_root_decodes}
-use Rattle.cloud_trait.specs.State.{CloudState, newest}
-use Rattle.db_base.specs.Ids.{IsTree}
 use Rattle.db_base.specs.declared.names.ObjName.TheVariants as object
-use Rattle.db_base.specs.declared.trouble.Trouble.{Trouble}
 use Rattle.db_base.specs.declared.trouble.Trouble.TheVariants as trouble
-use Rattle.leaf_view.specs.Leaf.{Leaf, IsLeaf}
+use Rattle.leaf_view.specs.Leaf.{IsLeaf}
 use Rattle.leaf_view.specs.Lookup.{empty_leaf, page_at}
-use Rattle.node_codec.specs.Inner.{Inner, IsInner}
+use Rattle.node_codec.specs.Inner.{IsInner}
 use Rattle.node_codec.specs.Node as node
-use Rattle.node_codec.specs.Tree.{Tree}
 use Rattle.node_codec.proofs.SpellingLaws.{tree_only}
 use Rattle.orphan_sweep.specs.declared.paths.Link.{Link as Found}
 use Rattle.orphan_sweep.specs.declared.paths.Paths.{Paths}
 use Rattle.orphan_sweep.specs.declared.spot.Spot.{Spot}
 use Rattle.orphan_sweep.specs.Pages.{root_or, root_held, first_page, link_by, leaf_paths, inner_paths, leaf_held, inner_held, fenced, leaf_at, levelled, inner_at, paths_of}
-use Rattle.report_types.specs.declared.entry.Entry.{Entry}
 use Rattle.session_facts.specs.Machines.Sweeps.Places.{IsReading}
 use Rattle.session_facts.proofs.Machines.Sweeps.Firsts.{begin_of, first_below}
 use Rattle.tree_phases.proofs.Reading.{leaf_is, inner_is}

@@ -1,38 +1,24 @@
 -- What each call of a sweep leaves of the cloud that it began over: all but pages that nothing reached.
 use Rattle.std.proofs.Common.{◌≡◌, ◌≢◌, ◌⊎◌, inl, inr, ℕ, Bool, true, false, List, [], ◌∷◌, ◌++◌, Option, Some, None, Ok, refl, sym, ap, subst, ◌∙◌, arith}
-use Rattle.cloud_facts.specs.Book.Book.{Book}
+use Rattle.cloud_facts.specs.Words.{IsTree, ObjName, QueueName, Entry, Answer, Version, Posted, CloudState, called, newest, Caller, Claim, Lasts, Ask, GetHeld, Release, done_of, Book, Store, nodes_of, roots_of, store_of, IsCall, StandsUnder}
 use Rattle.cloud_facts.specs.Book.Premises.{Removes}
-use Rattle.cloud_facts.specs.Book.Tally.{Store}
-use Rattle.cloud_facts.specs.Book.Telling.{nodes_of, roots_of, gone_of}
-use Rattle.cloud_facts.specs.Calls.Call.{IsCall}
-use Rattle.cloud_facts.specs.Calls.Standing.{StandsUnder}
+use Rattle.cloud_facts.specs.Book.Telling.{gone_of}
 use Rattle.cloud_facts.specs.Chains.Chain.{IsUnlinked}
 use Rattle.cloud_facts.specs.Chains.Links.{first_link}
 use Rattle.cloud_facts.specs.Homes.Homes.{Part}
-use Rattle.cloud_facts.specs.Tellings.Told.{store_of}
 use Rattle.cloud_facts.proofs.Calls.Pages.{none_landed, some_landed}
 use Rattle.cloud_facts.proofs.Decoding.Newest.{newest_last, last_there}
 use Rattle.cloud_trait.proofs.NameLemmas.{object_cmp-equal}
 use Rattle.cloud_trait.proofs.RowLemmas.{row_versions, row_messages}
 use Rattle.cloud_trait.proofs.StateLemmas.{put_at_by, newest_of-push}
-use Rattle.cloud_trait.specs.Ask.{Ask, GetHeld, ListHeld, RemoveHeld, Release, Lands, PutsNothing, TouchesNoMessage}
-use Rattle.cloud_trait.specs.Caller.{Caller}
-use Rattle.cloud_trait.specs.Claim.{Claim, Lasts}
+use Rattle.cloud_trait.specs.Ask.{ListHeld, RemoveHeld, Lands, PutsNothing, TouchesNoMessage}
 use Rattle.cloud_trait.specs.Names.{object_cmp}
-use Rattle.cloud_trait.specs.State.{CloudState, called, newest, newest_of, removed as removed_from, put_at}
-use Rattle.cloud_trait.specs.Views.{done_of}
-use Rattle.cloud_trait.specs.declared.answer.Answer.{Answer}
-use Rattle.cloud_trait.specs.declared.state.Posted.{Posted}
-use Rattle.cloud_trait.specs.declared.state.Version.{Version}
-use Rattle.db_base.specs.Ids.{IsTree}
-use Rattle.db_base.specs.declared.names.ObjName.{ObjName}
+use Rattle.cloud_trait.specs.State.{newest_of, removed as removed_from, put_at}
 use Rattle.db_base.specs.declared.names.ObjName.TheVariants as object
-use Rattle.db_base.specs.declared.names.QueueName.{QueueName}
 use Rattle.orphan_sweep.proofs.Outcomes.{leased}
 use Rattle.orphan_sweep.specs.declared.stage.Stage.{Stage}
 use Rattle.orphan_sweep.specs.declared.stage.Stage.TheVariants.{TakingTree, GettingTree, Reading, Listing, Removing, Releasing, Finished}
 use Rattle.orphan_sweep.specs.Sweeping.{Sweeping, take_tree, next_orphan, remove_next, is_among, ask_at, sweep_ask}
-use Rattle.report_types.specs.declared.entry.Entry.{Entry}
 use Rattle.session_facts.specs.Machines.Sweeps.Places.{IsOfLink}
 use Rattle.session_facts.specs.Machines.Sweeps.Reached.{HasBytes, RootNames, PageNames, IsReached, first_page, from_root, from_page}
 use Rattle.session_facts.specs.Machines.Sweeps.Remains.{WasRemoved, PageRemains, Remains, AreJustReached}

@@ -2,27 +2,19 @@
 use Rattle.std.proofs.Common.{◌≡◌, ◌≢◌, ◌+◌, ◌<◌, ◌==◌, ◌⊎◌, inl, inr, ℕ, zero, suc, Bool, true, false, cond, List, [], ◌∷◌, length, Option, Some, None, Ok, refl, sym, ap, subst, ◌∙◌, arith}
 use Rattle.std.proofs.lemmas.Bool.{eqb-true, eqb-false}
 use Rattle.byte_format.specs.Order.{bytes_below}
-use Rattle.cloud_facts.specs.Book.Book.{Book}
-use Rattle.cloud_facts.specs.Book.Records.{IsIn}
-use Rattle.cloud_facts.specs.Book.Tally.{Node, Leafy, Branch, right_of}
-use Rattle.cloud_facts.specs.Calls.Standing.{StandsUnder}
+use Rattle.cloud_facts.specs.Words.{IsTree, Entry, Leaf, Inner, Tree, Posted, CloudState, newest, Book, Node, Leafy, Branch, IsIn, StandsUnder}
+use Rattle.cloud_facts.specs.Book.Tally.{right_of}
 use Rattle.cloud_facts.specs.Decoding.Kinds.{IsNode}
 use Rattle.cloud_facts.proofs.Calls.Pages.{some_landed}
 use Rattle.cloud_facts.proofs.Chains.Pieces.{in_first, in_rest}
 use Rattle.cloud_trait.specs.Delivery.{unmarked}
-use Rattle.cloud_trait.specs.State.{CloudState, newest, newest_of, greatest}
+use Rattle.cloud_trait.specs.State.{newest_of, greatest}
 use Rattle.std.specs.Prelude.{min}
-use Rattle.cloud_trait.specs.declared.state.Posted.{Posted}
-use Rattle.db_base.specs.Ids.{IsTree}
 use Rattle.db_base.specs.Value.{Value}
 use Rattle.db_base.specs.declared.names.ObjName.TheVariants as object
-use Rattle.leaf_view.specs.Leaf.{Leaf}
-use Rattle.node_codec.specs.Inner.{Inner}
 use Rattle.node_codec.specs.Node.{Entry as Child, later_of, child_of}
-use Rattle.node_codec.specs.Tree.{Tree}
 use Rattle.replay_meaning.specs.Chain.{IsReadAs, IsNewestLeaf, Leads, AreLeaves}
 use Rattle.replay_meaning.specs.Index.{IsNewestInner, IsRootIn, Reaches, ends, right_leaf, right_inner, down, Finds}
-use Rattle.report_types.specs.declared.entry.Entry.{Entry}
 use Rattle.session_facts.specs.Machines.Sweeps.Reached.{HasBytes, IsChildOf, RootNames, IsReached, first_page, from_root, from_page}
 use Rattle.session_facts.specs.Machines.Sweeps.Remains.{PageRemains, Remains}
 use Rattle.session_facts.specs.Machines.Sweeps.Same.{TellsTheSame}

@@ -2,20 +2,11 @@
 use Rattle.std.proofs.Common.{◌≡◌, ℕ, Bool, true, false, List, Option, Some, None, refl, sym, ap, subst, ◌∙◌, arith}
 use Rattle.std.specs.Prelude.{slice_get}
 use Rattle.std.proofs.lemmas.Option.{slice_get_within}
-use Rattle.cloud_facts.specs.Book.Book.{Book, Link}
-use Rattle.cloud_facts.specs.Book.Records.{IsIn}
-use Rattle.cloud_facts.specs.Book.Tally.{Store}
-use Rattle.cloud_facts.specs.Calls.Standing.{StandsUnder}
+use Rattle.cloud_facts.specs.Words.{IsTree, Entry, Answer, CloudState, Claim, Lasts, Goes, Ends, Stops, Book, Link, Store, IsIn, store_of, StandsUnder}
 use Rattle.cloud_facts.specs.Chains.Chain.{IsUnlinked}
 use Rattle.cloud_facts.specs.Chains.Links.{first_link}
 use Rattle.cloud_facts.specs.Homes.Homes.{Part}
-use Rattle.cloud_facts.specs.Tellings.Told.{store_of}
 use Rattle.cloud_facts.proofs.Chains.Pieces.{in_first}
-use Rattle.cloud_trait.specs.declared.answer.Answer.{Answer}
-use Rattle.cloud_trait.specs.Claim.{Claim, Lasts}
-use Rattle.cloud_trait.specs.Machine.{Goes, Ends, Stops}
-use Rattle.cloud_trait.specs.State.{CloudState}
-use Rattle.db_base.specs.Ids.{IsTree}
 use Rattle.orphan_sweep.proofs.Lists.{stray_at}
 use Rattle.orphan_sweep.proofs.Outcomes.{Comes, takes, refused, stops, reads_on, has_read, removes, rests, ends, stopped, nothing, came_by}
 use Rattle.orphan_sweep.specs.declared.stage.Stage.{Stage}
@@ -23,7 +14,6 @@ use Rattle.orphan_sweep.specs.declared.stage.Stage.TheVariants.{Releasing}
 use Rattle.orphan_sweep.specs.declared.swept.Swept.{Swept}
 use Rattle.orphan_sweep.specs.Meaning.{Calls, HasListed}
 use Rattle.orphan_sweep.specs.Sweeping.{Sweeping, Step, is_among, strays, sweep_next}
-use Rattle.report_types.specs.declared.entry.Entry.{Entry}
 use Rattle.session_facts.specs.Machines.Sweeps.Knows.{IsSwept, Under, IsCleared, KnowsAt, KnowsSweep}
 use Rattle.session_facts.specs.Machines.Sweeps.Swept.{WasSwept}
 use Rattle.session_facts.proofs.Machines.Sweeps.Clears.{stray_in, all_swept}

@@ -7,18 +7,16 @@ use Rattle.byte_format.specs.Order.{bytes_below, bytes_same}
 use Rattle.cloud_facts.proofs.Book.Lengths.{few_keys, image}
 use Rattle.cloud_facts.proofs.Calls.Rows.{page_of, pages_apart}
 use Rattle.cloud_facts.proofs.Chains.Joining.{level_apart}
-use Rattle.cloud_facts.specs.Book.Book.{Link}
-use Rattle.cloud_facts.specs.Book.Records.{IsIn}
-use Rattle.cloud_facts.specs.Book.Tally.{Node}
+use Rattle.cloud_facts.specs.Words.{Inner, Tree, Link, Node, IsIn}
 use Rattle.cloud_facts.specs.Chains.Chain.{IsChained}
 use Rattle.cloud_facts.specs.Chains.Links.{link_below, link_of, Ascends, NamesBelow, top_of}
 use Rattle.leaf_view.specs.Fits.{Ascend}
 use Rattle.node_codec.proofs.EntryLemmas.{behind_parts}
 use Rattle.node_codec.proofs.InnerLemmas.{inner_fits}
 use Rattle.node_codec.proofs.TreeLemmas.{tree_fits}
-use Rattle.node_codec.specs.Inner.{Inner, HasInnerSpelling}
+use Rattle.node_codec.specs.Inner.{HasInnerSpelling}
 use Rattle.node_codec.specs.Node.{Entry, entry, with_entry}
-use Rattle.node_codec.specs.Tree.{Tree, IsSoundTree, with_child}
+use Rattle.node_codec.specs.Tree.{IsSoundTree, with_child}
 use Rattle.session_facts.proofs.Settling.Trees.Lists.{pages_fit}
 use Rattle.session_facts.proofs.Machines.Trees.Names.{links_name, named_names}
 use Rattle.session_facts.proofs.Machines.Risings.Spells.{ArePages, links_fit, named_spelled}

@@ -7,29 +7,17 @@ use Rattle.ckpt_parts.specs.declared.intake.Intake.{Intake}
 use Rattle.ckpt_parts.specs.Deleting.{next_id, tried}
 use Rattle.ckpt_parts.specs.Intakes.{items_of, intake_of, message_damage, TakesItems}
 use Rattle.ckpt_parts.specs.Leasing.{newest_lease, without_newest}
-use Rattle.cloud_facts.specs.Book.Tally.{Store}
-use Rattle.cloud_trait.specs.declared.answer.Answer.{Answer}
+use Rattle.cloud_facts.specs.Words.{IsTree, Trouble, QueueName, PuItem, Answer, CloudState, called, newest, Caller, Seen, Claim, Ask, GetHeld, Receive, Next, Goes, Ends, Stops, done_of, got_of, Store}
 use Rattle.cloud_trait.specs.declared.answer.Answer.TheVariants.{Memory}
 use Rattle.cloud_trait.specs.declared.message.Message.{Message}
 use Rattle.cloud_trait.specs.declared.turn.CkptAnswer.{CkptAnswer}
-use Rattle.cloud_trait.specs.Ask.{Ask, GetHeld, Receive}
-use Rattle.cloud_trait.specs.Caller.{Caller}
-use Rattle.cloud_trait.specs.Claim.{Claim}
-use Rattle.cloud_trait.specs.Machine.{Next, Goes, Ends, Stops}
-use Rattle.cloud_trait.specs.Seen.{Seen}
-use Rattle.cloud_trait.specs.State.{CloudState, called, newest}
-use Rattle.cloud_trait.specs.Views.{got_of, done_of}
 use Rattle.cloud_trait.specs.Weather.{Makes, Rose}
-use Rattle.db_base.specs.Ids.{IsTree}
 use Rattle.db_base.specs.declared.names.Lock.TheVariants as lock
 use Rattle.db_base.specs.declared.names.ObjName.TheVariants as object
-use Rattle.db_base.specs.declared.names.QueueName.{QueueName}
 use Rattle.db_base.specs.declared.names.QueueName.TheVariants as queue
 use Rattle.db_base.specs.declared.trouble.Counter.{Counter}
-use Rattle.db_base.specs.declared.trouble.Trouble.{Trouble}
 use Rattle.tree_phases.specs.declared.folding.Folding.{Folding}
 use Rattle.tree_phases.specs.Folding.{folding_ask, folding_next}
-use Rattle.log_codec.specs.declared.record.PuItem.{PuItem}
 use Rattle.session_facts.specs.Sessions.Explains.{trouble_of_ending, ending_of, trouble_of_making, left_in_tree, MeetsNext, IsShown}
 use Rattle.session_facts.specs.Sessions.Spent.{IsSpentInTree}
 use Rattle.session_facts.specs.Machines.TreeCheckpoints.Knows.{KnowsWork, KnowsMaking}

@@ -2,20 +2,14 @@
 use Rattle.std.proofs.Common.{◌≡◌, ◌+◌, ◌⊎◌, inl, inr, ℕ, Bool, false, List, [], ◌∷◌, ◌++◌, length, map, reverse, Option, Some, None, refl, sym, ap, subst, ◌∙◌, arith, length-append}
 use Rattle.cloud_facts.specs.Chains.Cuts.{leaf_node}
 use Rattle.cloud_facts.specs.Chains.Links.{top_of}
-use Rattle.cloud_facts.specs.Calls.Standing.{StandsUnder}
-use Rattle.cloud_trait.specs.Claim.{Claim, Lasts}
-use Rattle.cloud_trait.specs.State.{CloudState}
+use Rattle.cloud_facts.specs.Words.{Entry, CloudState, Claim, Lasts, Book, Link, Node, nodes_of, roots_of, store_of, StandsUnder}
 use Rattle.db_base.specs.declared.names.Lock.TheVariants as lock
 use Rattle.tree_phases.specs.declared.folding.Folding.{Folding}
 use Rattle.tree_phases.specs.Folding.{folding_ask}
 use Rattle.cloud_facts.specs.Leases.Guards.{IsGuarded}
-use Rattle.report_types.specs.declared.entry.Entry.{Entry}
 use Rattle.split_plan.specs.Part.{Part, LeafPart}
 use Rattle.split_plan.specs.Plan.{put_of, on_pages, leaf_bytes}
-use Rattle.cloud_facts.specs.Book.Book.{Book, Link}
-use Rattle.cloud_facts.specs.Book.Tally.{Node}
-use Rattle.cloud_facts.specs.Book.Telling.{nodes_of, gone_of, roots_of}
-use Rattle.cloud_facts.specs.Tellings.Told.{store_of}
+use Rattle.cloud_facts.specs.Book.Telling.{gone_of}
 use Rattle.session_facts.specs.Machines.Trees.Leaves.{IsPutting}
 use Rattle.session_facts.specs.Machines.Folds.Knows.{Reserves, PutsPieces}
 use Rattle.session_facts.specs.Machines.Trees.Placings.{AreReserved, numbered}

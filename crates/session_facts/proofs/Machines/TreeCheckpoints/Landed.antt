@@ -3,22 +3,15 @@ use Rattle.std.proofs.Common.{◌≡◌, ◌⊎◌, inl, inr, ℕ, List, [], ◌
 use Rattle.cloud_facts.proofs.Book.Places.{in_front}
 use Rattle.cloud_facts.proofs.Calls.Calls.{call_of}
 use Rattle.cloud_facts.proofs.Chains.Pieces.{in_back}
-use Rattle.cloud_facts.specs.Book.Records.{IsIn}
-use Rattle.cloud_facts.specs.Calls.Call.{IsCall}
+use Rattle.cloud_facts.specs.Words.{ObjName, Answer, Version, CloudState, called, Caller, Claim, Ask, PutHeld, Deed, calls_of, IsIn, IsCall}
 use Rattle.cloud_trait.proofs.NameLemmas.{object_cmp-total}
 use Rattle.cloud_trait.proofs.RowLemmas.{leaves_grown}
 use Rattle.cloud_trait.proofs.StateLemmas.{put_at_same}
-use Rattle.cloud_trait.specs.declared.answer.Answer.{Answer}
 use Rattle.cloud_trait.specs.declared.answer.Answer.TheVariants.{Done}
-use Rattle.cloud_trait.specs.declared.state.Version.{Version}
-use Rattle.cloud_trait.specs.Ask.{Ask, PutHeld}
-use Rattle.cloud_trait.specs.Caller.{Caller}
-use Rattle.cloud_trait.specs.Claim.{Claim}
 use Rattle.cloud_trait.specs.Growth.{HasGrown}
-use Rattle.cloud_trait.specs.Machine.{Deed, Came, calls_of}
+use Rattle.cloud_trait.specs.Machine.{Came}
 use Rattle.cloud_trait.specs.Names.{object_cmp}
-use Rattle.cloud_trait.specs.State.{CloudState, landed, called}
-use Rattle.db_base.specs.declared.names.ObjName.{ObjName}
+use Rattle.cloud_trait.specs.State.{landed}
 use Rattle.db_base.specs.declared.names.ObjName.TheVariants as object
 use Rattle.node_codec.specs.Node.{Entry}
 use Rattle.session_facts.specs.Machines.TreeCheckpoints.Named.{AreTold, HasLanded, IsTold}

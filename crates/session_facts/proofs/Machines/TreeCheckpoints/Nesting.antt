@@ -6,18 +6,16 @@ use Rattle.byte_format.specs.Order.{bytes_below, below_bound}
 use Rattle.cloud_facts.proofs.Chains.Names.{plus_one}
 use Rattle.cloud_facts.proofs.Chains.Newest.{IsNewestOf, newest_is, last_in}
 use Rattle.cloud_facts.proofs.Chains.Pieces.{none_in, none_stands, in_cases, ascend_all, not_itself}
-use Rattle.cloud_facts.specs.Book.Book.{Link}
-use Rattle.cloud_facts.specs.Book.Records.{StandsAt, IsIn}
-use Rattle.cloud_facts.specs.Book.Tally.{Node, Leafy, Branch, low_of, right_of, high_of}
+use Rattle.cloud_facts.specs.Words.{Inner, Tree, Link, Node, Leafy, Branch, IsIn, StandsAt}
+use Rattle.cloud_facts.specs.Book.Tally.{low_of, right_of, high_of}
 use Rattle.cloud_facts.specs.Chains.Chain.{IsChained, IsVersionOf, NamesRight}
 use Rattle.cloud_facts.specs.Chains.Links.{link_below, link_of, newest_node, top_of, low_after, IsOfLevel, NodeNames}
 use Rattle.leaf_edit.proofs.InOrder.{below_upto}
 use Rattle.leaf_view.specs.Fits.{Ascend}
 use Rattle.leaf_view.specs.Lookup.{empty_leaf}
 use Rattle.node_codec.proofs.EntryLemmas.{below_chain}
-use Rattle.node_codec.specs.Inner.{Inner, first_low_of}
+use Rattle.node_codec.specs.Inner.{first_low_of}
 use Rattle.node_codec.specs.Node.{Entry}
-use Rattle.node_codec.specs.Tree.{Tree}
 use Rattle.session_facts.specs.Machines.TreeCheckpoints.Nesting.{Nests}
 
 -- ---- links in their order

@@ -9,38 +9,25 @@ use Rattle.cloud_facts.proofs.Calls.Pages.{none_landed}
 use Rattle.cloud_facts.proofs.Chains.Newest.{newest_is, last_in}
 use Rattle.cloud_facts.proofs.Chains.GoneLemmas.{links_kept}
 use Rattle.cloud_facts.proofs.Decoding.Values.{newest_page_decodes}
-use Rattle.cloud_facts.specs.Book.Book.{Book, Link}
-use Rattle.cloud_facts.specs.Book.Records.{IsIn}
-use Rattle.cloud_facts.specs.Book.Tally.{Node, Leafy, Branch, Store, low_of, high_of}
-use Rattle.cloud_facts.specs.Book.Telling.{leaf_in, nodes_of, roots_of, newest_root}
-use Rattle.cloud_facts.specs.Calls.Call.{IsCall}
-use Rattle.cloud_facts.specs.Calls.Standing.{StandsUnder}
+use Rattle.cloud_facts.specs.Words.{IsTree, ObjName, Entry, Leaf, Inner, Answer, CloudState, newest, Caller, Claim, Lasts, Ask, GetHeld, Take, got_of, Book, Link, Store, Node, Leafy, Branch, IsIn, nodes_of, roots_of, store_of, IsCall, StandsUnder}
+use Rattle.cloud_facts.specs.Book.Tally.{low_of, high_of}
+use Rattle.cloud_facts.specs.Book.Telling.{leaf_in, newest_root}
 use Rattle.cloud_facts.specs.Chains.Chain.{IsChained}
 use Rattle.cloud_facts.specs.Chains.Links.{newest_node, IsOfLevel}
 use Rattle.cloud_facts.specs.Decoding.Kinds.{IsNode}
-use Rattle.cloud_facts.specs.Tellings.Told.{store_of}
-use Rattle.cloud_trait.specs.declared.answer.Answer.{Answer}
 use Rattle.cloud_trait.specs.declared.answer.Answer.TheVariants as call
-use Rattle.cloud_trait.specs.Ask.{Ask, GetHeld, Take}
-use Rattle.cloud_trait.specs.Caller.{Caller}
-use Rattle.cloud_trait.specs.Claim.{Claim, Lasts}
-use Rattle.cloud_trait.specs.State.{CloudState, newest}
-use Rattle.cloud_trait.specs.Views.{got_of}
 use Rattle.ckpt_parts.specs.Deleting.{next_id}
 use Rattle.ckpt_parts.specs.Leasing.{newest_lease}
-use Rattle.db_base.specs.Ids.{IsTree}
 use Rattle.db_base.specs.declared.names.Lock.TheVariants as lock
-use Rattle.db_base.specs.declared.names.ObjName.{ObjName}
 use Rattle.db_base.specs.declared.names.ObjName.TheVariants as object
 use Rattle.tree_phases.specs.declared.folding.Folding.{Folding as Leafing}
 use Rattle.tree_phases.specs.Folding.{folding_ask}
 use Rattle.leaf_view.proofs.Exact.{leaf_exact}
 use Rattle.leaf_view.specs.Fits.{IsWellFormed, IsEntryIn}
-use Rattle.leaf_view.specs.Leaf.{Leaf, Entry as Rec, leaf}
+use Rattle.leaf_view.specs.Leaf.{Entry as Rec, leaf}
 use Rattle.leaf_view.specs.Lookup.{empty_leaf}
 use Rattle.node_codec.proofs.SpellingLaws.{inner_only}
-use Rattle.node_codec.specs.Inner.{Inner, inner_of}
-use Rattle.report_types.specs.declared.entry.Entry.{Entry}
+use Rattle.node_codec.specs.Inner.{inner_of}
 use Rattle.session_facts.proofs.Machines.TreeCheckpoints.Nesting.{nests}
 use Rattle.session_facts.proofs.Machines.TreeCheckpoints.Noted.{tours_noted, noted_kept}
 use Rattle.session_facts.proofs.Machines.Folds.Plans.{newest_formed}

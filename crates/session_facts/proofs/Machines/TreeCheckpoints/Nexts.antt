@@ -3,16 +3,12 @@ use Rattle.std.proofs.Common.{◌≡◌, inl, inr, ℕ, suc, Bool, true, false, 
 use Rattle.cloud_trait.specs.declared.turn.CkptAnswer.{CkptAnswer}
 use Rattle.ckpt_parts.specs.Deleting.{Deleting, next_id, tried, tried_of}
 use Rattle.ckpt_parts.specs.Leasing.{newest_lease, without_newest}
-use Rattle.cloud_trait.specs.Claim.{Claim}
-use Rattle.cloud_trait.specs.Machine.{Next, Goes, Ends, Stops}
+use Rattle.cloud_facts.specs.Words.{Trouble, Claim, Next, Goes, Ends, Stops, Store, IsIn}
 use Rattle.db_base.specs.declared.names.Lock.TheVariants as lock
-use Rattle.db_base.specs.declared.trouble.Trouble.{Trouble}
 use Rattle.tree_phases.specs.declared.folding.Folding.{Folding}
 use Rattle.tree_phases.specs.declared.folding.Left.{Left}
 use Rattle.tree_phases.specs.declared.folding.Left.TheVariants as left
 use Rattle.session_facts.specs.Machines.Runs.Knows.{MayDelete}
-use Rattle.cloud_facts.specs.Book.Records.{IsIn}
-use Rattle.cloud_facts.specs.Book.Tally.{Store}
 use Rattle.tree_ckpt.specs.Leases.{OfTree, HasIds}
 use Rattle.tree_ckpt.proofs.Leaving.{SameLeaf, LeavesLeaf}
 use Rattle.session_facts.specs.Machines.TreeCheckpoints.Knows.{IsUnder, OfPage, HoldsLast, MayStopTree, EndsWell, KnowsWorkNext}

@@ -1,14 +1,10 @@
 -- Each inner node that the calls of a checkpoint brought is kept on the way down.
 use Rattle.std.proofs.Common.{◌≡◌, ◌⊎◌, inl, inr, ℕ, suc, List, [], ◌∷◌, ◌++◌, Option, Some, refl, ap, subst}
-use Rattle.cloud_facts.specs.Book.Records.{IsIn}
-use Rattle.cloud_trait.specs.declared.answer.Answer.{Answer}
-use Rattle.cloud_trait.specs.Ask.{Ask, GetHeld, Receive, Take}
-use Rattle.cloud_trait.specs.Claim.{Claim}
+use Rattle.cloud_facts.specs.Words.{ObjName, Inner, Answer, Claim, Ask, GetHeld, Receive, Take, IsIn}
 use Rattle.db_base.specs.declared.names.Lock.TheVariants as lock
-use Rattle.db_base.specs.declared.names.ObjName.{ObjName}
 use Rattle.db_base.specs.declared.names.ObjName.TheVariants as object
 use Rattle.db_base.specs.declared.names.QueueName.TheVariants as queue
-use Rattle.node_codec.specs.Inner.{Inner, inner_of}
+use Rattle.node_codec.specs.Inner.{inner_of}
 use Rattle.tree_ckpt.proofs.Tours.{ToursAt}
 use Rattle.tree_ckpt.proofs.Under.{on_ways}
 use Rattle.tree_ckpt.proofs.Whole.{IsNoted}

@@ -7,34 +7,24 @@ use Rattle.cloud_facts.proofs.Chains.Pieces.{none_in}
 use Rattle.ckpt_parts.specs.declared.intake.Intake.{Intake}
 use Rattle.ckpt_parts.specs.Deleting.{to_delete}
 use Rattle.ckpt_parts.specs.Intakes.{items_of, has_items, intake_of, TakesItems}
-use Rattle.cloud_facts.specs.Calls.Standing.{StandsUnder}
+use Rattle.cloud_facts.specs.Words.{IsTree, Trouble, Entry as Change, PuItem, Tree, CloudState, newest, Claim, Book, Store, IsIn, nodes_of, roots_of, store_of, StandsUnder}
 use Rattle.cloud_trait.specs.declared.message.Message.{Message}
-use Rattle.cloud_trait.specs.Claim.{Claim}
 use Rattle.cloud_trait.specs.Delivery.{WasSent}
-use Rattle.cloud_trait.specs.State.{CloudState, newest}
 use Rattle.db_base.specs.Change.{key_of}
-use Rattle.db_base.specs.Ids.{IsTree}
 use Rattle.db_base.specs.declared.names.ObjName.TheVariants as object
 use Rattle.db_base.specs.declared.names.QueueName.TheVariants as queue
-use Rattle.db_base.specs.declared.trouble.Trouble.{Trouble}
 use Rattle.cloud_facts.proofs.Decoding.Values.{newest_root_decodes}
 use Rattle.leaf_edit.specs.Merging.{Rises}
 use Rattle.leaf_edit.proofs.InOrder.{Rises-sorted}
-use Rattle.log_codec.specs.declared.record.PuItem.{PuItem}
 use Rattle.node_codec.proofs.NodeLemmas.{not_below_empty}
 use Rattle.node_codec.proofs.SpellingLaws.{tree_only}
 use Rattle.node_codec.specs.Node.{Entry, child_of}
-use Rattle.node_codec.specs.Tree.{Tree, tree_of}
-use Rattle.report_types.specs.declared.entry.Entry.{Entry as Change}
+use Rattle.node_codec.specs.Tree.{tree_of}
 use Rattle.run_cursor.specs.Covered.{covered_ids}
 use Rattle.run_cursor.specs.Run.{Taken, IsRun}
 use Rattle.session_facts.specs.Machines.Runs.Knows.{IsSentItem}
 use Rattle.session_facts.proofs.Machines.Runs.Received.{items_sent, none_damaged}
-use Rattle.cloud_facts.specs.Book.Book.{Book}
-use Rattle.cloud_facts.specs.Book.Records.{IsIn}
-use Rattle.cloud_facts.specs.Book.Tally.{Store}
-use Rattle.cloud_facts.specs.Book.Telling.{nodes_of, roots_of, newest_root}
-use Rattle.cloud_facts.specs.Tellings.Told.{store_of}
+use Rattle.cloud_facts.specs.Book.Telling.{newest_root}
 use Rattle.tree_ckpt.specs.Leases.{OfTree}
 use Rattle.session_facts.specs.Machines.TreeCheckpoints.Knows.{IsUnder, MayStopTree, KnowsOnward, KnowsWorkNext}
 use Rattle.session_facts.proofs.Machines.TreeCheckpoints.Keys.{least_from, none_from}

@@ -1,11 +1,9 @@
 -- What a checkpoint knows survives the calls of others.
 use Rattle.std.proofs.Common.{◌≡◌, ◌≤◌, inl, inr, ℕ, zero, suc, List, [], ◌∷◌, refl, sym, ap, ◌∙◌}
-use Rattle.cloud_trait.specs.Claim.{Claim}
+use Rattle.cloud_facts.specs.Words.{Claim, Store, IsIn}
 use Rattle.db_base.specs.declared.names.Lock.TheVariants as lock
 use Rattle.tree_phases.specs.declared.folding.Folding.{Folding}
 use Rattle.session_facts.proofs.Machines.Runs.Marks.{delete_stays}
-use Rattle.cloud_facts.specs.Book.Records.{IsIn}
-use Rattle.cloud_facts.specs.Book.Tally.{Store}
 use Rattle.tree_ckpt.specs.Making.{Making}
 use Rattle.session_facts.specs.Machines.TreeCheckpoints.Knows.{IsUnder, KnowsOnward, KnowsWork, KnowsMaking, leases_of_making}
 use Rattle.session_facts.specs.Machines.Trees.Leaves.{KnowsLeaf}

@@ -3,17 +3,13 @@ use Rattle.std.proofs.Common.{◌≡◌, ◌<◌, ◌≤◌, ◌+◌, ◌⊎◌,
 use Rattle.std.specs.Prelude.{not}
 use Rattle.std.proofs.lemmas.Bool.{and_parts, not-true}
 use Rattle.byte_format.specs.Order.{bytes_below, below_bound}
-use Rattle.cloud_trait.specs.declared.answer.Answer.{Answer}
+use Rattle.cloud_facts.specs.Words.{ObjName, Inner, Answer, Claim, Ask, GetHeld, Take, Deed, calls_of}
 use Rattle.cloud_trait.specs.declared.answer.Answer.TheVariants.{Got, Done, Given}
 use Rattle.cloud_trait.specs.declared.turn.CkptAnswer.{CkptAnswer}
-use Rattle.cloud_trait.specs.Ask.{Ask, GetHeld, Take}
-use Rattle.cloud_trait.specs.Claim.{Claim}
-use Rattle.cloud_trait.specs.Machine.{Deed, calls_of}
 use Rattle.db_base.specs.declared.names.Lock.TheVariants as lock
-use Rattle.db_base.specs.declared.names.ObjName.{ObjName}
 use Rattle.db_base.specs.declared.names.ObjName.TheVariants as object
 use Rattle.leaf_view.specs.Lookup.{holds}
-use Rattle.node_codec.specs.Inner.{Inner, inner_of}
+use Rattle.node_codec.specs.Inner.{inner_of}
 use Rattle.run_cursor.specs.Run.{Taken}
 use Rattle.session_facts.proofs.Machines.TreeCheckpoints.Noted.{got_front, got_back, got_either}
 use Rattle.session_facts.proofs.Machines.TreeCheckpoints.Shortness.{AreShortItems, run_short, piece_short}

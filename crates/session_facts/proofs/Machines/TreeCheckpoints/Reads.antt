@@ -5,37 +5,24 @@ use Rattle.std.specs.List.{AllByRecursion}
 use Rattle.std.proofs.lemmas.List.Elements.{recursion_from_All}
 use Rattle.cloud_facts.specs.Chains.Links.{top_of}
 use Rattle.ckpt_parts.specs.Intakes.{has_items}
-use Rattle.cloud_facts.specs.Calls.Call.{IsCall}
-use Rattle.cloud_facts.specs.Calls.Standing.{StandsUnder}
-use Rattle.cloud_trait.specs.declared.answer.Answer.{Answer}
+use Rattle.cloud_facts.specs.Words.{Entry, PuItem, Tree, Answer, CloudState, newest, Caller, Claim, Receive, received_of, Book, Store, IsIn, roots_of, store_of, IsCall, StandsUnder}
 use Rattle.cloud_trait.specs.declared.answer.Answer.TheVariants.{Received}
 use Rattle.cloud_trait.specs.declared.message.Message.{Message}
-use Rattle.cloud_trait.specs.Ask.{Receive}
-use Rattle.cloud_trait.specs.Caller.{Caller}
-use Rattle.cloud_trait.specs.Claim.{Claim}
 use Rattle.cloud_trait.specs.Delivery.{WasSent}
-use Rattle.cloud_trait.specs.State.{CloudState, newest}
-use Rattle.cloud_trait.specs.Views.{received_of}
 use Rattle.db_base.specs.Cursor.{number_of}
 use Rattle.db_base.specs.declared.names.ObjName.TheVariants as object
 use Rattle.db_base.specs.declared.names.QueueName.TheVariants as queue
 use Rattle.cloud_facts.proofs.Decoding.Values.{newest_root_decodes}
-use Rattle.log_codec.specs.declared.record.PuItem.{PuItem}
 use Rattle.node_codec.proofs.SpellingLaws.{tree_only}
-use Rattle.node_codec.specs.Tree.{Tree, HasTreeSpelling, empty_tree, IsTree as SpellsTree}
+use Rattle.node_codec.specs.Tree.{HasTreeSpelling, empty_tree, IsTree as SpellsTree}
 use Rattle.cloud_facts.specs.Numbers.Numbers.{Numbers}
-use Rattle.report_types.specs.declared.entry.Entry.{Entry}
 use Rattle.run_cursor.specs.Covered.{covered_ids}
 use Rattle.run_cursor.specs.Run.{Taken, IsRun}
 use Rattle.session_facts.specs.Machines.Runs.Knows.{IsSentItem, TookRun, MayDelete}
 use Rattle.session_facts.proofs.Machines.Runs.Marks.{covered_more}
 use Rattle.session_facts.proofs.Machines.Runs.Received.{each_in, item_of, item_client, ids_covered}
 use Rattle.session_facts.proofs.Machines.Runs.Taken.{run_in, empty_top}
-use Rattle.cloud_facts.specs.Book.Book.{Book}
-use Rattle.cloud_facts.specs.Book.Records.{IsIn}
-use Rattle.cloud_facts.specs.Book.Tally.{Store}
-use Rattle.cloud_facts.specs.Book.Telling.{roots_of, newest_root}
-use Rattle.cloud_facts.specs.Tellings.Told.{store_of}
+use Rattle.cloud_facts.specs.Book.Telling.{newest_root}
 use Rattle.session_facts.specs.Machines.Trees.Charts.{KnowsRoot}
 use Rattle.cloud_facts.proofs.Calls.Pages.{no_root}
 use Rattle.session_facts.proofs.Machines.Trees.Reserves.{newest_root_of}

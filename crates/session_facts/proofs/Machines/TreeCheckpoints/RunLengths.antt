@@ -9,18 +9,16 @@ use Rattle.byte_format.specs.Order.{bytes_cmp}
 use Rattle.cloud_facts.proofs.Book.Places.{get_within}
 use Rattle.cloud_facts.proofs.Chains.Pieces.{in_cases, in_first, in_rest, none_in}
 use Rattle.cloud_facts.specs.Book.Messages.{HasCopy}
-use Rattle.cloud_facts.specs.Book.Records.{IsIn, Apart}
-use Rattle.cloud_facts.specs.Book.Tally.{Store}
-use Rattle.cloud_trait.specs.declared.state.Posted.{Posted}
+use Rattle.cloud_facts.specs.Words.{PuItem, Leaf, Posted, Store, IsIn}
+use Rattle.cloud_facts.specs.Book.Records.{Apart}
 use Rattle.db_base.specs.Change.{key_of, act}
 use Rattle.db_base.specs.Value.{Value}
 use Rattle.db_base.specs.declared.change.Change.{Change}
 use Rattle.leaf_edit.specs.Applied.{applied}
 use Rattle.leaf_edit.specs.Edited.{with_value, edited_at, edited, edited_by}
 use Rattle.leaf_edit.specs.Lacked.{is_lacked, lacked}
-use Rattle.leaf_view.specs.Leaf.{Leaf, Entry}
+use Rattle.leaf_view.specs.Leaf.{Entry}
 use Rattle.log_codec.specs.Pu.{pu_of}
-use Rattle.log_codec.specs.declared.record.PuItem.{PuItem}
 use Rattle.log_codec.specs.declared.record.PuRec.{PuRec}
 use Rattle.run_cursor.specs.Run.{Taken, is_at}
 use Rattle.session_facts.proofs.Machines.Runs.Taken.{run_in, run_within}

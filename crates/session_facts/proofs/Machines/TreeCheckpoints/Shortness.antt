@@ -3,14 +3,12 @@ use Rattle.std.proofs.Common.{◌≡◌, ◌≤◌, ◌+◌, inl, inr, ℕ, zero
 use Rattle.std.specs.Prelude.{drop}
 use Rattle.std.specs.List.{AllByRecursion, flat_map}
 use Rattle.ckpt_parts.specs.Intakes.{item_with, with_first, items_of}
-use Rattle.cloud_facts.specs.Book.Records.{IsIn}
+use Rattle.cloud_facts.specs.Words.{PuItem, Leaf, IsIn}
 use Rattle.cloud_trait.specs.declared.message.Message.{Message}
 use Rattle.db_base.specs.Change.{key_of}
 use Rattle.leaf_edit.specs.Applied.{applied}
 use Rattle.leaf_edit.specs.Lacked.{is_lacked, lacked}
-use Rattle.leaf_view.specs.Leaf.{Leaf}
 use Rattle.log_codec.proofs.PuLaws.{pu_of-some}
-use Rattle.log_codec.specs.declared.record.PuItem.{PuItem}
 use Rattle.log_codec.specs.declared.record.PuRec.{PuRec}
 use Rattle.log_codec.specs.Pu.{pu_of}
 use Rattle.run_cursor.specs.Run.{Taken}

@@ -4,29 +4,21 @@ use Rattle.std.specs.Prelude.{◌&&◌, is_none, is_some, reverse, slice_get}
 use Rattle.std.proofs.lemmas.Bool.{eqb-true}
 use Rattle.std.proofs.lemmas.List.{append-nil, length-reverse, length-map}
 use Rattle.byte_format.specs.Format.{greatest}
-use Rattle.cloud_facts.specs.Book.Records.{IsIn}
-use Rattle.cloud_facts.specs.Book.Tally.{Branch, Leafy, Store}
-use Rattle.cloud_facts.specs.Book.Telling.{nodes_of, roots_of}
+use Rattle.cloud_facts.specs.Words.{IsTree, Trouble, PuItem, Leaf, Inner, Tree, CloudState, newest, Claim, Store, Leafy, Branch, IsIn, nodes_of, roots_of}
 use Rattle.cloud_facts.specs.Chains.Chain.{IsChained}
 use Rattle.cloud_facts.specs.Tellings.Taking.{IsLinked}
 use Rattle.cloud_facts.proofs.Chains.Pieces.{none_in}
-use Rattle.cloud_trait.specs.Claim.{Claim}
-use Rattle.cloud_trait.specs.State.{CloudState, newest}
-use Rattle.db_base.specs.Ids.{IsTree}
 use Rattle.db_base.specs.declared.names.ObjName.TheVariants as object
 use Rattle.db_base.specs.declared.names.QueueName.TheVariants.{TreePu}
 use Rattle.db_base.specs.declared.trouble.Counter.{Counter}
 use Rattle.db_base.specs.declared.trouble.Counter.TheVariants as counter
-use Rattle.db_base.specs.declared.trouble.Trouble.{Trouble}
 use Rattle.db_base.specs.declared.trouble.Trouble.TheVariants as trouble
 use Rattle.leaf_edit.specs.Applied.{applied}
 use Rattle.tree_phases.specs.declared.folding.Folding.{Folding}
-use Rattle.leaf_view.specs.Leaf.{Leaf}
 use Rattle.leaf_view.specs.Lookup.{empty_leaf}
-use Rattle.log_codec.specs.declared.record.PuItem.{PuItem}
-use Rattle.node_codec.specs.Inner.{Inner, HasInnerSpelling, inner_of}
+use Rattle.node_codec.specs.Inner.{HasInnerSpelling, inner_of}
 use Rattle.node_codec.specs.Node.{raised as raised_cursor}
-use Rattle.node_codec.specs.Tree.{Tree, empty_tree}
+use Rattle.node_codec.specs.Tree.{empty_tree}
 use Rattle.node_codec.proofs.SpellingLaws.{inner_only}
 use Rattle.run_cursor.specs.Run.{Taken}
 use Rattle.session_facts.specs.Sessions.Spent.{HasLastPage, HasLastPages, HasLastRoot, IsLeafOf, MayNeed, IsSpentInTree}

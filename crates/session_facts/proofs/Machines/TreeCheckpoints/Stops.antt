@@ -1,16 +1,11 @@
 -- Why an answer, a plan or a way down stops a checkpoint: no damage does.
 use Rattle.std.proofs.Common.{◌≡◌, ◌+◌, ◌==◌, ℕ, Bool, true, false, cond, Some, None, Result, Ok, Err, refl, subst}
 use Rattle.std.specs.Prelude.{nat_lt}
-use Rattle.cloud_trait.specs.declared.answer.Answer.{Answer}
+use Rattle.cloud_facts.specs.Words.{Trouble, Lock, Tree, Answer, Claim, Next, Goes, Ends, Stops, done_of, got_of, given_of, received_of, Store}
 use Rattle.cloud_trait.specs.declared.answer.Answer.TheVariants.{Got, Sent, Received, Listed, Done, Given, Held, Renewed, Late, Failed, Memory}
-use Rattle.cloud_trait.specs.Claim.{Claim}
-use Rattle.cloud_trait.specs.Machine.{Next, Goes, Ends, Stops}
-use Rattle.cloud_trait.specs.Views.{trouble_of, given_of, got_of, received_of, done_of}
-use Rattle.db_base.specs.declared.names.Lock.{Lock}
-use Rattle.db_base.specs.declared.trouble.Trouble.{Trouble}
+use Rattle.cloud_trait.specs.Views.{trouble_of}
 use Rattle.db_base.specs.declared.trouble.Trouble.TheVariants as trouble
-use Rattle.node_codec.specs.Tree.{Tree, tree_bytes}
-use Rattle.cloud_facts.specs.Book.Tally.{Store}
+use Rattle.node_codec.specs.Tree.{tree_bytes}
 use Rattle.session_facts.specs.Sessions.Spent.{IsOfFolding}
 use Rattle.session_facts.specs.Machines.TreeCheckpoints.Knows.{MayStopTree}
 use Rattle.tree_phases.specs.declared.descent.Descent.{Descent}

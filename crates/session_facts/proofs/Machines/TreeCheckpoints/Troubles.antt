@@ -2,17 +2,14 @@
 use Rattle.std.proofs.Common.{◌≡◌, ℕ, true, false, List, Option, Some, None, Result, Ok, Err, refl, sym, ap, subst, ◌∙◌}
 use Rattle.std.specs.Prelude.{is_some}
 use Rattle.byte_format.specs.Whole.{offset}
-use Rattle.cloud_trait.specs.declared.answer.Answer.{Answer}
-use Rattle.cloud_trait.specs.Machine.{Next, Goes, Ends, Stops}
-use Rattle.cloud_trait.specs.Views.{got_of, done_of}
-use Rattle.db_base.specs.declared.trouble.Trouble.{Trouble}
+use Rattle.cloud_facts.specs.Words.{Trouble, Leaf, Inner, Answer, Next, Goes, Ends, Stops, done_of, got_of}
 use Rattle.db_base.specs.declared.trouble.Trouble.TheVariants as trouble
 use Rattle.tree_phases.specs.declared.folding.Folding.{Folding}
 use Rattle.tree_phases.specs.declared.folding.Left.{Left}
 use Rattle.tree_phases.specs.declared.page_plan.PagePlan.{PagePlan}
 use Rattle.tree_phases.specs.Folding.{bad_low, folding_next}
-use Rattle.leaf_view.specs.Leaf.{Leaf, leaf as leaf_format}
-use Rattle.node_codec.specs.Inner.{Inner, inner_of, inner_format}
+use Rattle.leaf_view.specs.Leaf.{leaf as leaf_format}
+use Rattle.node_codec.specs.Inner.{inner_of, inner_format}
 use Rattle.session_facts.proofs.Sessions.Shows.{IsFree}
 use Rattle.tree_ckpt.proofs.Spent.{IsSpentFor, PlanTells, leaf_plan_tells, node_plan_tells, last_plan_tells}
 use Rattle.tree_ckpt.specs.Due.{Due, LeafDue, NodeDue, RootDue}

@@ -7,13 +7,8 @@ use Rattle.cloud_facts.specs.Chains.Chain.{IsVersionOf, IsChained}
 use Rattle.cloud_facts.specs.Meanings.Meets.{IsAt, IsPassed}
 use Rattle.cloud_facts.proofs.Meanings.Stale.{stale_down}
 use Rattle.cloud_facts.proofs.Meanings.Steps.{goes_down, goes_right, passed_right, passed_down, left_right, left_down}
-use Rattle.cloud_trait.specs.Claim.{Claim}
-use Rattle.node_codec.specs.Inner.{Inner}
+use Rattle.cloud_facts.specs.Words.{Inner, Tree, Claim, Link, Store, Node, Branch, IsIn}
 use Rattle.node_codec.specs.Node.{Entry, child_of, page_at}
-use Rattle.node_codec.specs.Tree.{Tree}
-use Rattle.cloud_facts.specs.Book.Book.{Link}
-use Rattle.cloud_facts.specs.Book.Records.{IsIn}
-use Rattle.cloud_facts.specs.Book.Tally.{Node, Branch, Store}
 use Rattle.cloud_facts.proofs.Book.Places.{in_either, in_none}
 use Rattle.tree_phases.specs.declared.descent.Descent.{Descent}
 use Rattle.tree_phases.specs.declared.fork.Fork.{Fork}

@@ -6,11 +6,10 @@ use Rattle.byte_format.specs.Order.{bytes_below, bytes_same, below_bound}
 use Rattle.cloud_facts.specs.Chains.Links.{link_of, NamesLinks, NamesBelow}
 use Rattle.cloud_facts.proofs.Chains.Pieces.{in_cases, in_first, in_rest}
 use Rattle.node_codec.proofs.NodeLemmas.{not_below_empty}
-use Rattle.node_codec.specs.Inner.{Inner, first_low_of}
+use Rattle.cloud_facts.specs.Words.{Inner, Tree, Link, IsIn}
+use Rattle.node_codec.specs.Inner.{first_low_of}
 use Rattle.node_codec.specs.Node.{Entry, with_entry}
-use Rattle.node_codec.specs.Tree.{Tree, with_child}
-use Rattle.cloud_facts.specs.Book.Book.{Link}
-use Rattle.cloud_facts.specs.Book.Records.{IsIn}
+use Rattle.node_codec.specs.Tree.{with_child}
 use Rattle.tree_phases.specs.declared.link.Link.{Link as Found}
 use Rattle.tree_phases.specs.Nodes.{goes_to, with_links}
 use Rattle.tree_phases.specs.Root.{is_named, with_named}

@@ -2,15 +2,10 @@
 use Rattle.std.proofs.Common.{◌≡◌, ◌-◌, ◌≤◌, inl, inr, ℕ, List, ap, ◌∙◌, arith}
 use Rattle.cloud_facts.specs.Chains.Links.{newest_node, top_of}
 use Rattle.cloud_facts.proofs.Meanings.Steps.{at_stays, passed_stays}
-use Rattle.cloud_trait.specs.Claim.{Claim, Lasts}
+use Rattle.cloud_facts.specs.Words.{Inner, Tree, Claim, Lasts, Link, Store, Node, Leafy, Branch, IsIn}
 use Rattle.db_base.specs.declared.names.Lock.TheVariants as lock
 use Rattle.leaf_view.specs.Lookup.{empty_leaf}
-use Rattle.node_codec.specs.Inner.{Inner}
-use Rattle.node_codec.specs.Tree.{Tree}
-use Rattle.cloud_facts.specs.Book.Book.{Link}
 use Rattle.cloud_facts.specs.Book.Growth.{Grows}
-use Rattle.cloud_facts.specs.Book.Records.{IsIn}
-use Rattle.cloud_facts.specs.Book.Tally.{Node, Leafy, Branch, Store}
 use Rattle.cloud_facts.specs.Book.Telling.{last_or}
 use Rattle.tree_phases.specs.declared.chart.Chart.{Chart}
 use Rattle.tree_phases.specs.declared.kept.KeptNode.{KeptNode}

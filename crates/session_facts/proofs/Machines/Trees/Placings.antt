@@ -8,9 +8,7 @@ use Rattle.cloud_facts.proofs.Chains.Pieces.{none_in, in_cases}
 use Rattle.split_plan.specs.Part.{Part}
 use Rattle.split_plan.specs.Plan.{put_of, on_pages}
 use Rattle.std.specs.Prelude.{slice_get}
-use Rattle.cloud_facts.specs.Book.Book.{Link}
-use Rattle.cloud_facts.specs.Book.Records.{IsIn}
-use Rattle.cloud_facts.specs.Book.Tally.{Node}
+use Rattle.cloud_facts.specs.Words.{Link, Node, IsIn}
 use Rattle.session_facts.specs.Machines.Trees.Placings.{AreReserved}
 
 -- ---- the last of a list

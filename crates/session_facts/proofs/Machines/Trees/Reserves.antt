@@ -7,13 +7,8 @@ use Rattle.cloud_facts.specs.Chains.Links.{first_link, link_of, top_of, NamesBel
 use Rattle.cloud_facts.proofs.Chains.Newest.{last_in}
 use Rattle.cloud_facts.proofs.Chains.Pieces.{in_first, in_cases, none_in}
 use Rattle.cloud_facts.proofs.Chains.Roots.{top_added}
-use Rattle.cloud_facts.specs.Calls.Standing.{StandsUnder}
-use Rattle.cloud_trait.specs.Ask.{PutHeld}
-use Rattle.cloud_trait.specs.Caller.{Caller}
-use Rattle.cloud_trait.specs.Claim.{Claim}
-use Rattle.cloud_trait.specs.State.{CloudState}
+use Rattle.cloud_facts.specs.Words.{IsTree, Entry, Tree, CloudState, Caller, Claim, PutHeld, Book, Link, Store, Node, IsIn, nodes_of, roots_of, store_of, StandsUnder}
 use Rattle.db_base.specs.Cursor.{number_of}
-use Rattle.db_base.specs.Ids.{IsTree}
 use Rattle.db_base.specs.declared.names.ObjName.TheVariants as object
 use Rattle.cloud_facts.specs.Landings.Landing.{Landing, puts_root}
 use Rattle.byte_format.specs.Format.{greatest}
@@ -21,19 +16,14 @@ use Rattle.node_codec.proofs.EntryLemmas.{fits_to_last}
 use Rattle.node_codec.proofs.NodeLemmas.{in_range_from, in_range_parts}
 use Rattle.node_codec.proofs.TreeLemmas.{tree_fits, fit_tree}
 use Rattle.node_codec.specs.Node.{Entry as Child}
-use Rattle.node_codec.specs.Tree.{Tree, IsTree as SpellsTree, HasTreeSpelling, tree_bytes, empty_tree}
-use Rattle.report_types.specs.declared.entry.Entry.{Entry}
+use Rattle.node_codec.specs.Tree.{IsTree as SpellsTree, HasTreeSpelling, tree_bytes, empty_tree}
 use Rattle.split_plan.specs.Part.{Part}
-use Rattle.cloud_facts.specs.Book.Book.{Book, Link}
 use Rattle.cloud_facts.specs.Book.Effects.{after_root}
 use Rattle.cloud_facts.specs.Book.Premises.{CoversApplied}
-use Rattle.cloud_facts.specs.Book.Records.{IsIn}
-use Rattle.cloud_facts.specs.Book.Tally.{Node, Store}
-use Rattle.cloud_facts.specs.Book.Telling.{nodes_of, gone_of, roots_of}
+use Rattle.cloud_facts.specs.Book.Telling.{gone_of}
 use Rattle.cloud_facts.proofs.Book.Names.{at_same}
 use Rattle.cloud_facts.proofs.Book.Places.{in_behind}
 use Rattle.cloud_facts.proofs.Tellings.Names.{at2_same}
-use Rattle.cloud_facts.specs.Tellings.Told.{store_of}
 use Rattle.tree_phases.specs.Read.{tree_held}
 use Rattle.session_facts.specs.Machines.Trees.Charts.{IsRootOf, KnowsRoot}
 use Rattle.session_facts.specs.Machines.Trees.Placings.{AreReserved, reserving, IsReservation}

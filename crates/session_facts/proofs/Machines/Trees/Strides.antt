@@ -4,13 +4,8 @@ use Rattle.std.proofs.lemmas.Bool.{eqb-true}
 use Rattle.cloud_facts.specs.Chains.Chain.{ChainHolds}
 use Rattle.cloud_facts.proofs.Meanings.Steps.{not_passed}
 use Rattle.cloud_facts.proofs.Calls.Searching.{found}
-use Rattle.cloud_trait.specs.Claim.{Claim}
-use Rattle.cloud_trait.specs.Machine.{Next}
-use Rattle.db_base.specs.declared.trouble.Trouble.{Trouble}
-use Rattle.node_codec.specs.Inner.{Inner}
+use Rattle.cloud_facts.specs.Words.{Trouble, Inner, Claim, Next, Store, Branch, IsIn}
 use Rattle.run_cursor.specs.Covered.{is_seen}
-use Rattle.cloud_facts.specs.Book.Records.{IsIn}
-use Rattle.cloud_facts.specs.Book.Tally.{Branch, Store}
 use Rattle.tree_phases.specs.declared.descent.Descent.{Descent}
 use Rattle.tree_phases.specs.declared.fork.Fork.{Fork}
 use Rattle.tree_phases.specs.Descent.{forked_by, fork_of, passed, kept_at, arrive}

@@ -7,24 +7,15 @@ use Rattle.cloud_facts.proofs.Chains.GoneLemmas.{links_kept}
 use Rattle.cloud_facts.specs.Meanings.Meets.{IsAt}
 use Rattle.cloud_facts.proofs.Meanings.Stale.{stale_root, absent_root}
 use Rattle.cloud_facts.proofs.Meanings.Steps.{from_root, from_none}
-use Rattle.cloud_facts.specs.Calls.Standing.{StandsUnder}
-use Rattle.cloud_trait.specs.Claim.{Claim}
-use Rattle.cloud_trait.specs.State.{CloudState, newest}
+use Rattle.cloud_facts.specs.Words.{Trouble, Entry as Change, Inner, Tree, CloudState, newest, Claim, Book, Link, Store, Node, Leafy, Branch, IsIn, nodes_of, roots_of, store_of, StandsUnder}
 use Rattle.db_base.specs.declared.names.ObjName.TheVariants as object
-use Rattle.db_base.specs.declared.trouble.Trouble.{Trouble}
 use Rattle.cloud_facts.specs.Decoding.Kinds.{IsNode}
 use Rattle.cloud_facts.proofs.Decoding.Values.{newest_page_decodes}
 use Rattle.leaf_view.specs.Lookup.{empty_leaf}
-use Rattle.node_codec.specs.Inner.{Inner, IsInner}
+use Rattle.node_codec.specs.Inner.{IsInner}
 use Rattle.node_codec.specs.Node.{Entry, child_of}
-use Rattle.node_codec.specs.Tree.{Tree}
-use Rattle.report_types.specs.declared.entry.Entry.{Entry as Change}
-use Rattle.cloud_facts.specs.Book.Book.{Book, Link}
-use Rattle.cloud_facts.specs.Book.Records.{IsIn}
-use Rattle.cloud_facts.specs.Book.Tally.{Node, Leafy, Branch, Store}
-use Rattle.cloud_facts.specs.Book.Telling.{nodes_of, roots_of, newest_root}
+use Rattle.cloud_facts.specs.Book.Telling.{newest_root}
 use Rattle.cloud_facts.proofs.Book.Places.{in_either, in_front, in_behind, in_none}
-use Rattle.cloud_facts.specs.Tellings.Told.{store_of}
 use Rattle.tree_phases.specs.declared.descent.Descent.{Descent}
 use Rattle.tree_phases.specs.Descent.{begun, fork_of, passed, with_node, got_node, descent_got}
 use Rattle.tree_phases.specs.Fork.{forked_on}

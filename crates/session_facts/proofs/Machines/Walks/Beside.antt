@@ -1,11 +1,7 @@
 -- The cache that a walk leaves is known, whatever the walk.
 use Rattle.std.proofs.Common.{ℕ, sym, subst}
-use Rattle.cloud_trait.specs.Machine.{Next, Goes, Ends, Stops}
-use Rattle.cloud_trait.specs.Views.{got_of}
-use Rattle.cloud_trait.specs.declared.answer.Answer.{Answer}
-use Rattle.db_base.specs.declared.trouble.Trouble.{Trouble}
+use Rattle.cloud_facts.specs.Words.{Trouble, Answer, Next, Goes, Ends, Stops, got_of, Store}
 use Rattle.page_cache.specs.Cache.{Cache}
-use Rattle.cloud_facts.specs.Book.Tally.{Store}
 use Rattle.tree_walk.specs.Walk.{Walk, object_of, rested, walk_ready, walk_next}
 use Rattle.tree_walk.proofs.Outcomes as step
 use Rattle.tree_walk.proofs.Outcomes.{StopsFor, Comes, comes, Readies, readies}

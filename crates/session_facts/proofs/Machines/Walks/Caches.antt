@@ -7,15 +7,15 @@ use Rattle.std.specs.Result.{result_ok}
 use Rattle.std.proofs.lemmas.Bool.{eqb-true}
 use Rattle.byte_format.specs.Whole.{whole, offset}
 use Rattle.cloud_trait.specs.Growth.{BeginsWith}
-use Rattle.db_base.specs.declared.names.ObjName.{ObjName}
+use Rattle.cloud_facts.specs.Words.{ObjName, Leaf, Tree, Store, Node, Leafy, IsIn}
 use Rattle.db_base.specs.declared.names.ObjName.TheVariants as object
 use Rattle.db_base.specs.declared.names.Place.TheVariants as place
 use Rattle.db_base.specs.declared.trouble.Trouble.TheVariants as trouble
 use Rattle.cloud_facts.specs.Decoding.Kinds.{IsNode}
 use Rattle.cloud_facts.proofs.Decoding.Reading.{node_spelled}
-use Rattle.leaf_view.specs.Leaf.{Leaf, leaf}
+use Rattle.leaf_view.specs.Leaf.{leaf}
 use Rattle.leaf_view.specs.Lookup.{empty_leaf}
-use Rattle.node_codec.specs.Tree.{Tree, empty_tree}
+use Rattle.node_codec.specs.Tree.{empty_tree}
 use Rattle.node_codec.proofs.SpellingLaws.{tree_only}
 use Rattle.page_cache.specs.Cache.{Cache, empty_cache, kept_at, served_at, placed, served, dropped, accepts, accepts_read}
 use Rattle.page_cache.specs.Held.{leaf_in, leaf_at, root_at, as_leaf, as_root}
@@ -25,8 +25,7 @@ use Rattle.page_cache.proofs.CacheLemmas.{Outcome, never, accept_first}
 use Rattle.page_cache.proofs.EntryLemmas.{all_left, all_front}
 use Rattle.page_cache.proofs.NameLemmas.{same_name-is}
 use Rattle.cloud_facts.specs.Book.Growth.{Grows}
-use Rattle.cloud_facts.specs.Book.Records.{IsIn}
-use Rattle.cloud_facts.specs.Book.Tally.{Node, Leafy, Store, version_of}
+use Rattle.cloud_facts.specs.Book.Tally.{version_of}
 use Rattle.cloud_facts.specs.Book.Telling.{leaf_of_bytes, node_or}
 use Rattle.cloud_facts.proofs.Book.Places.{in_front}
 use Rattle.session_facts.specs.Machines.Walks.Caches.{HasLanded, WasServed, KnowsCache, IsSeenRoot, IsSeenLeaf}

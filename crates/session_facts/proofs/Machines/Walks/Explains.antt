@@ -2,35 +2,22 @@
 use Rattle.std.proofs.Common.{◌≡◌, ◌≤◌, ◌<◌, ◌==◌, ◌⊎◌, inl, inr, ℕ, Bool, true, false, List, [], length, map, Option, Some, None, unwrap_or, refl, sym, ap, subst, ◌∙◌, arith}
 use Rattle.std.specs.Map.{lookup}
 use Rattle.std.proofs.lemmas.Bool.{eq-eqb}
-use Rattle.cloud_facts.specs.Calls.Call.{IsCall}
-use Rattle.cloud_facts.specs.Calls.Standing.{StandsUnder}
+use Rattle.cloud_facts.specs.Words.{Trouble, Entry, Answer, Version, CloudState, called, newest, Caller, Seen, Claim, Next, Goes, Ends, Stops, Book, Link, Store, Node, IsIn, nodes_of, store_of, IsCall, StandsUnder}
 use Rattle.cloud_facts.specs.Decoding.Kinds.{IsNth}
 use Rattle.cloud_facts.proofs.Book.Places.{get_within}
 use Rattle.cloud_facts.proofs.Calls.Calls.{call_of}
 use Rattle.cloud_facts.proofs.Decoding.Newest.{no_version}
 use Rattle.cloud_facts.proofs.Chains.GoneLemmas.{links_kept}
 use Rattle.cloud_facts.proofs.Decoding.Values.{newest_decodes}
-use Rattle.cloud_trait.specs.declared.answer.Answer.{Answer}
 use Rattle.cloud_trait.specs.declared.answer.Answer.TheVariants.{Got}
-use Rattle.cloud_trait.specs.declared.state.Version.{Version}
-use Rattle.cloud_trait.specs.Caller.{Caller}
-use Rattle.cloud_trait.specs.Claim.{Claim}
-use Rattle.cloud_trait.specs.Machine.{Next, Goes, Ends, Stops}
-use Rattle.cloud_trait.specs.Seen.{Seen}
-use Rattle.cloud_trait.specs.State.{CloudState, newest, called}
 use Rattle.cloud_trait.specs.Weather.{Rose, Weather, Makes}
 use Rattle.db_base.specs.declared.names.ObjName.TheVariants as object
 use Rattle.db_base.specs.declared.trouble.Counter.{Counter}
-use Rattle.db_base.specs.declared.trouble.Trouble.{Trouble}
 use Rattle.page_cache.specs.Cache.{Cache, served_at}
 use Rattle.page_cache.specs.Names.{same_name}
 use Rattle.page_cache.specs.Refused.{IsDamaged}
-use Rattle.report_types.specs.declared.entry.Entry.{Entry}
-use Rattle.cloud_facts.specs.Book.Book.{Book, Link}
-use Rattle.cloud_facts.specs.Book.Records.{IsIn}
-use Rattle.cloud_facts.specs.Book.Tally.{Node, Store, version_of}
-use Rattle.cloud_facts.specs.Book.Telling.{node_in, with_bytes, nodes_of, gone_of}
-use Rattle.cloud_facts.specs.Tellings.Told.{store_of}
+use Rattle.cloud_facts.specs.Book.Tally.{version_of}
+use Rattle.cloud_facts.specs.Book.Telling.{node_in, with_bytes, gone_of}
 use Rattle.session_facts.specs.Sessions.Explains.{IsShown}
 use Rattle.session_facts.specs.Machines.Walks.Caches.{KnowsCache}
 use Rattle.session_facts.specs.Machines.Walks.Knows.{KnowsWalk, KnowsWalking, MayStopWalk, WalkLeads}

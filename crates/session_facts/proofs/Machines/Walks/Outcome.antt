@@ -2,29 +2,15 @@
 use Rattle.std.proofs.Common.{◌≡◌, ℕ, Bool, List, Option, Some, None, refl, sym, subst}
 use Rattle.cloud_facts.specs.Chains.Chain.{ChainHolds}
 use Rattle.cloud_facts.proofs.Meanings.Steps.{at_stays, passed_stays}
-use Rattle.cloud_facts.specs.Calls.Call.{IsCall}
-use Rattle.cloud_facts.specs.Calls.Standing.{StandsUnder}
-use Rattle.cloud_trait.specs.Ask.{Get}
-use Rattle.cloud_trait.specs.Caller.{Caller}
-use Rattle.cloud_trait.specs.Machine.{Goes, Stops}
-use Rattle.cloud_trait.specs.State.{CloudState, Counts, version_at}
-use Rattle.cloud_trait.specs.Views.{got_of}
+use Rattle.cloud_facts.specs.Words.{IsTree, Trouble, ObjName, Entry, Answer, CloudState, called, Caller, Get, Goes, Stops, got_of, Book, Store, store_of, IsCall, StandsUnder}
+use Rattle.cloud_trait.specs.State.{Counts, version_at}
 use Rattle.cloud_trait.specs.Weather.{Weather}
-use Rattle.cloud_trait.specs.State.{called}
-use Rattle.cloud_trait.specs.declared.answer.Answer.{Answer}
 use Rattle.cloud_trait.specs.declared.answer.Answer.TheVariants.{Got, Sent, Received, Listed, Done, Given, Held, Renewed, Late, Failed, Memory}
-use Rattle.db_base.specs.Ids.{IsTree}
-use Rattle.db_base.specs.declared.names.ObjName.{ObjName}
 use Rattle.db_base.specs.declared.names.ObjName.TheVariants as object
-use Rattle.db_base.specs.declared.trouble.Trouble.{Trouble}
 use Rattle.cloud_facts.proofs.Decoding.Values.{version_decodes, read_node, read_root}
 use Rattle.page_cache.specs.Cache.{Cache}
-use Rattle.report_types.specs.declared.entry.Entry.{Entry}
-use Rattle.cloud_facts.specs.Book.Book.{Book}
 use Rattle.cloud_facts.specs.Book.Growth.{Grows}
 use Rattle.cloud_facts.specs.Book.Premises.{IsLeafAtMost}
-use Rattle.cloud_facts.specs.Book.Tally.{Store}
-use Rattle.cloud_facts.specs.Tellings.Told.{store_of}
 use Rattle.tree_walk.specs.Walk.{Spot, Walk, new_walk, sought, object_of, walk_ready, walk_next}
 use Rattle.session_facts.specs.Machines.Walks.Caches.{KnowsCache}
 use Rattle.session_facts.specs.Machines.Walks.Knows.{IsOnWay, WalkStandsAt, WasUsed, KnowsWalk, KnowsWalking, MayStopWalk, WalkLeads}

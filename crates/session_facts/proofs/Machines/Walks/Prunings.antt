@@ -6,20 +6,14 @@ use Rattle.cloud_facts.specs.Chains.Chain.{ChainHolds}
 use Rattle.cloud_facts.specs.Calls.Acting.{IsPruned}
 use Rattle.db_base.specs.Change.{key_of}
 use Rattle.db_base.specs.Cursor.{number_of}
-use Rattle.db_base.specs.Ids.{IsClient, IsTree}
-use Rattle.head_codec.specs.declared.head.Head.{Head}
+use Rattle.cloud_facts.specs.Words.{IsClient, IsTree, AtomicRec, Head, Leaf, Tree, Store, Leafy, IsIn}
 use Rattle.head_codec.specs.declared.lists.Pending.{Pending}
-use Rattle.leaf_view.specs.Leaf.{Leaf}
 use Rattle.leaf_view.specs.Lookup.{holds, number_of as done_number}
-use Rattle.log_codec.specs.declared.record.AtomicRec.{AtomicRec}
-use Rattle.node_codec.specs.Tree.{Tree}
 use Rattle.cloud_facts.specs.Numbers.Numbers.{Numbers}
 use Rattle.cloud_facts.specs.Pendings.Pending.{IsOwn, Pends}
 use Rattle.route_plan.specs.Prune.{is_applied_in, pruned_by_leaf, is_covered_by, pruned_by_tree}
 use Rattle.route_plan.specs.Record.{pending_of}
 use Rattle.cloud_facts.specs.Book.Premises.{IsAppliedEntry, IsLeafAtMost}
-use Rattle.cloud_facts.specs.Book.Records.{IsIn}
-use Rattle.cloud_facts.specs.Book.Tally.{Leafy, Store}
 use Rattle.session_facts.specs.Machines.Openings.Client.{AreOfRecords}
 use Rattle.session_facts.specs.Machines.Walks.Caches.{IsSeenRoot, IsSeenLeaf}
 

@@ -10,22 +10,16 @@ use Rattle.cloud_facts.specs.Chains.Links.{first_link, IsOfLevel}
 use Rattle.cloud_facts.specs.Meanings.Meets.{IsAt, IsPassed}
 use Rattle.cloud_facts.proofs.Meanings.Stale.{stale_down, stale_root, absent_root}
 use Rattle.cloud_facts.proofs.Meanings.Steps.{from_root, from_none, goes_down, goes_right, not_passed, passed_right, passed_down, left_right, left_down}
-use Rattle.db_base.specs.Ids.{IsTree}
+use Rattle.cloud_facts.specs.Words.{IsTree, Trouble, Leaf, Inner, Tree, Link, Store, Node, Leafy, Branch, IsIn}
 use Rattle.db_base.specs.declared.names.ObjName.TheVariants as object
-use Rattle.db_base.specs.declared.trouble.Trouble.{Trouble}
-use Rattle.leaf_view.specs.Leaf.{Leaf}
 use Rattle.leaf_view.specs.Lookup.{page_at}
-use Rattle.node_codec.specs.Inner.{Inner}
 use Rattle.node_codec.specs.Node.{Entry, child_of}
 use Rattle.node_codec.specs.Node.{page_at as node_at}
-use Rattle.node_codec.specs.Tree.{Tree}
 use Rattle.node_codec.proofs.SpellingLaws.{inner_only}
 use Rattle.page_cache.specs.Cache.{Cache, kept_at}
 use Rattle.page_cache.specs.Held.{leaf_at, inner_at, as_inner}
-use Rattle.cloud_facts.specs.Book.Book.{Link}
 use Rattle.cloud_facts.specs.Book.Premises.{IsLeafAtMost}
-use Rattle.cloud_facts.specs.Book.Records.{IsIn}
-use Rattle.cloud_facts.specs.Book.Tally.{Node, Leafy, Branch, Store, high_of}
+use Rattle.cloud_facts.specs.Book.Tally.{high_of}
 use Rattle.cloud_facts.specs.Book.Tally.{right_of as node_right}
 use Rattle.replay_meaning.specs.Index.{IsRightOf}
 use Rattle.tree_walk.specs.Causes.{below, aside, node_link, node_link_by, HasLow}

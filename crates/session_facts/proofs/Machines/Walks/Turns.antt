@@ -3,25 +3,20 @@ use Rattle.std.proofs.Common.{◌≡◌, ◌==◌, ◌⊎◌, inl, inr, ℕ, Boo
 use Rattle.std.specs.Prelude.{fold}
 use Rattle.std.proofs.lemmas.Bool.{eqb-true, eqb-false}
 use Rattle.cloud_facts.specs.Chains.Chain.{ChainHolds}
-use Rattle.cloud_trait.specs.declared.answer.Answer.{Answer}
+use Rattle.cloud_facts.specs.Words.{Trouble, ObjName, Leaf, Inner, Tree, Answer, Next, Goes, Ends, Stops, got_of, Store}
 use Rattle.cloud_trait.specs.declared.answer.Answer.TheVariants as answer
-use Rattle.cloud_trait.specs.Machine.{Next, Goes, Ends, Stops}
-use Rattle.cloud_trait.specs.Views.{got_of}
-use Rattle.db_base.specs.declared.names.ObjName.{ObjName}
 use Rattle.db_base.specs.declared.names.ObjName.TheVariants as object
-use Rattle.db_base.specs.declared.trouble.Trouble.{Trouble}
 use Rattle.cloud_facts.specs.Decoding.Kinds.{IsNode}
-use Rattle.leaf_view.specs.Leaf.{Leaf, IsLeaf, leaf}
+use Rattle.leaf_view.specs.Leaf.{IsLeaf, leaf}
 use Rattle.leaf_view.proofs.Exact.{leaf_exact}
-use Rattle.node_codec.specs.Inner.{Inner, IsInner, inner_format}
-use Rattle.node_codec.specs.Tree.{Tree, IsTree as IsRootSpelled, tree_format}
+use Rattle.node_codec.specs.Inner.{IsInner, inner_format}
+use Rattle.node_codec.specs.Tree.{IsTree as IsRootSpelled, tree_format}
 use Rattle.node_codec.proofs.InnerLemmas.{inner_exact}
 use Rattle.node_codec.proofs.TreeLemmas.{tree_exact}
 use Rattle.page_cache.specs.Cache.{Cache, dropped, accepts}
 use Rattle.page_cache.specs.Refused.{IsDamaged}
 use Rattle.page_cache.specs.Spelled.{leaf_version, inner_version, root_version, version_read}
 use Rattle.page_cache.proofs.ReadingLemmas.{version_spelled}
-use Rattle.cloud_facts.specs.Book.Tally.{Store}
 use Rattle.tree_walk.specs.Causes.{IsOld}
 use Rattle.tree_walk.specs.Walk.{Spot, Walk, object_at, object_of, is_leaf, is_leaf_at, is_among, passed, left_by, beside, got_by, accepted_by, rested, walk_ready, walk_next}
 use Rattle.tree_walk.proofs.Leaves.{leaf_stays}

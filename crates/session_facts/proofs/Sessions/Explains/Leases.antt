@@ -5,15 +5,8 @@ use Rattle.client_work.specs.declared.answer.Answer.{Answer}
 use Rattle.client_work.specs.declared.answer.Answer.TheVariants as answer
 use Rattle.client_work.specs.declared.work.Work.{Work}
 use Rattle.client_work.specs.declared.work.Work.TheVariants.{Closing, Renewing}
-use Rattle.cloud_trait.specs.declared.turn.Turn.{Turn}
-use Rattle.cloud_trait.specs.declared.turn.Turn.TheVariants.{More, Ended, Stopped}
-use Rattle.cloud_trait.specs.Ask.{Ask, Renew, Release}
-use Rattle.cloud_trait.specs.Caller.{Caller}
-use Rattle.cloud_trait.specs.Claim.{Claim}
-use Rattle.cloud_trait.specs.Seen.{Seen}
-use Rattle.cloud_trait.specs.State.{CloudState}
+use Rattle.cloud_facts.specs.Words.{Trouble, Turn, More, Ended, Stopped, CloudState, Caller, Seen, Claim, Ask, Renew, Release}
 use Rattle.cloud_trait.specs.Weather.{Rose}
-use Rattle.db_base.specs.declared.trouble.Trouble.{Trouble}
 use Rattle.recover_run.specs.declared.home.Home.{Home}
 use Rattle.session_facts.specs.Sessions.Explains.{Explains, IsShown, Meets, left_in, left_told, trouble_in, trouble_of_turn, spent_for}
 use Rattle.session_facts.specs.Sessions.Knows.{leases_of}

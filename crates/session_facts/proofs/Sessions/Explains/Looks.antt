@@ -9,20 +9,10 @@ use Rattle.client_work.specs.declared.answer.Answer.TheVariants as answer
 use Rattle.client_work.specs.declared.shown.Shown.{Shown}
 use Rattle.client_work.specs.declared.work.Work.{Work}
 use Rattle.client_work.specs.declared.work.Work.TheVariants.{Looking}
-use Rattle.cloud_facts.specs.Book.Book.{Book}
-use Rattle.cloud_facts.specs.Book.Tally.{Store}
-use Rattle.cloud_facts.specs.Calls.Standing.{StandsUnder}
-use Rattle.cloud_facts.specs.Tellings.Told.{store_of}
-use Rattle.cloud_trait.specs.declared.turn.Turn.{Turn}
-use Rattle.cloud_trait.specs.declared.turn.Turn.TheVariants.{More, Ended, Stopped}
-use Rattle.cloud_trait.specs.Caller.{Caller}
-use Rattle.cloud_trait.specs.Seen.{Seen}
-use Rattle.cloud_trait.specs.State.{CloudState}
-use Rattle.db_base.specs.declared.trouble.Trouble.{Trouble}
+use Rattle.cloud_facts.specs.Words.{Trouble, Entry, Turn, More, Ended, Stopped, CloudState, Caller, Seen, Book, Store, store_of, StandsUnder}
 use Rattle.db_base.specs.declared.trouble.Trouble.TheVariants as trouble
 use Rattle.page_cache.specs.Cache.{Cache}
 use Rattle.recover_run.specs.declared.home.Home.{Home}
-use Rattle.report_types.specs.declared.entry.Entry.{Entry}
 use Rattle.session_facts.specs.Machines.Looks.Knows.{KnowsLooking, LookLeads}
 use Rattle.session_facts.specs.Sessions.Explains.{Explains, IsShown, left_in, spent_for, trouble_in}
 use Rattle.session_facts.specs.Sessions.Knows.{leases_of}

@@ -5,20 +5,10 @@ use Rattle.client_work.specs.declared.answer.Answer.{Answer}
 use Rattle.client_work.specs.declared.answer.Answer.TheVariants as answer
 use Rattle.client_work.specs.declared.work.Work.{Work}
 use Rattle.client_work.specs.declared.work.Work.TheVariants.{Closed, Sweeping as SweepingOn}
-use Rattle.cloud_facts.specs.Book.Tally.{Store}
+use Rattle.cloud_facts.specs.Words.{Trouble, Lock, Answer as Heard, Turn, More, Ended, Stopped, CloudState, Caller, Seen, Ask, Take, Goes, Stops, Store}
 use Rattle.cloud_facts.specs.Homes.Homes.{Part}
-use Rattle.cloud_trait.specs.declared.answer.Answer.{Answer as Heard}
 use Rattle.cloud_trait.specs.declared.answer.Answer.TheVariants.{Held, Late}
-use Rattle.cloud_trait.specs.declared.turn.Turn.{Turn}
-use Rattle.cloud_trait.specs.declared.turn.Turn.TheVariants.{More, Ended, Stopped}
-use Rattle.cloud_trait.specs.Ask.{Ask, Take}
-use Rattle.cloud_trait.specs.Caller.{Caller}
-use Rattle.cloud_trait.specs.Machine.{Goes, Stops}
-use Rattle.cloud_trait.specs.Seen.{Seen}
-use Rattle.cloud_trait.specs.State.{CloudState}
 use Rattle.cloud_trait.specs.Weather.{Makes}
-use Rattle.db_base.specs.declared.names.Lock.{Lock}
-use Rattle.db_base.specs.declared.trouble.Trouble.{Trouble}
 use Rattle.db_base.specs.declared.trouble.Trouble.TheVariants as trouble
 use Rattle.orphan_sweep.proofs.Causes.{took_tells}
 use Rattle.orphan_sweep.specs.Causes.{Shows, IsShown as IsShownBy}

@@ -7,30 +7,18 @@ use Rattle.client_work.specs.declared.listing.Listing.{Listing}
 use Rattle.client_work.specs.declared.shown.Shown.{Shown}
 use Rattle.client_work.specs.declared.work.Work.{Work}
 use Rattle.client_work.specs.declared.work.Work.TheVariants.{Committing, Reading, Scanning}
-use Rattle.cloud_trait.specs.declared.answer.Answer.{Answer as Reply}
+use Rattle.cloud_facts.specs.Words.{Trouble, CommitAnswer, Entry, Answer as Reply, Turn, More, Ended, Stopped, CloudState, Caller, Seen, Ask, Book, Store, store_of, StandsUnder}
 use Rattle.cloud_trait.specs.declared.answer.Answer.TheVariants.{Memory}
-use Rattle.cloud_trait.specs.declared.turn.Turn.{Turn}
-use Rattle.cloud_trait.specs.declared.turn.Turn.TheVariants.{More, Ended, Stopped}
-use Rattle.cloud_trait.specs.Ask.{Ask}
-use Rattle.cloud_trait.specs.Caller.{Caller}
 use Rattle.cloud_trait.specs.Machine.{LeadsBy, Took}
-use Rattle.cloud_trait.specs.Seen.{Seen}
-use Rattle.cloud_trait.specs.State.{CloudState, Counts}
+use Rattle.cloud_trait.specs.State.{Counts}
 use Rattle.cloud_trait.specs.Weather.{Makes}
 use Rattle.commit_run.specs.Run.{Run, home_of, run_ask, run_next}
 use Rattle.commit_run.specs.Sound.{IsSoundRun}
-use Rattle.db_base.specs.declared.trouble.CommitAnswer.{CommitAnswer}
 use Rattle.db_base.specs.declared.trouble.CommitAnswer.TheVariants.{Committed, NotCommitted, InDoubt, CommittedOpen}
-use Rattle.db_base.specs.declared.trouble.Trouble.{Trouble}
 use Rattle.db_base.specs.declared.trouble.Trouble.TheVariants as trouble
 use Rattle.page_cache.specs.Cache.{Cache}
 use Rattle.range_scan.specs.Scan.{scan_ask, scan_next, KeepsServed}
 use Rattle.recover_run.specs.declared.home.Home.{Home}
-use Rattle.report_types.specs.declared.entry.Entry.{Entry}
-use Rattle.cloud_facts.specs.Book.Book.{Book}
-use Rattle.cloud_facts.specs.Book.Tally.{Store}
-use Rattle.cloud_facts.specs.Tellings.Told.{store_of}
-use Rattle.cloud_facts.specs.Calls.Standing.{StandsUnder}
 use Rattle.cloud_facts.proofs.Calls.Calls.{call_of}
 use Rattle.cloud_facts.specs.Homes.Homes.{Part}
 use Rattle.session_facts.specs.Machines.CommitRuns.Stops.{EndsBy}

@@ -7,18 +7,10 @@ use Rattle.client_work.specs.declared.answer.Answer.TheVariants as answer
 use Rattle.client_work.specs.declared.work.Work.{Work}
 use Rattle.client_work.specs.declared.work.Work.TheVariants.{Committing, Broken}
 use Rattle.cloud_facts.specs.Calls.Acting.{Setting, Outcome, Handles}
-use Rattle.cloud_facts.specs.Calls.Call.{IsCall}
+use Rattle.cloud_facts.specs.Words.{CommitAnswer, Entry, AtomicRec, Head, Answer as Reply, Turn, More, Ended, Stopped, CloudState, Caller, Seen, Claim, Ask, Get, GetHeld, PutHeld, Send, Receive, Delete, Take, Renew, Release, Next, Goes, Ends, Stops, Book, Store, store_of, IsCall}
 use Rattle.cloud_facts.proofs.Calls.Calls.{call_of}
 use Rattle.cloud_facts.proofs.Calls.Outcomes.{gives_up, weaker}
-use Rattle.cloud_trait.specs.declared.answer.Answer.{Answer as Reply}
-use Rattle.cloud_trait.specs.declared.turn.Turn.{Turn}
-use Rattle.cloud_trait.specs.declared.turn.Turn.TheVariants.{More, Ended, Stopped}
-use Rattle.cloud_trait.specs.Ask.{Ask, Get, GetHeld, PutHeld, ListHeld, RemoveHeld, Send, Receive, Delete, Take, Renew, Release}
-use Rattle.cloud_trait.specs.Caller.{Caller}
-use Rattle.cloud_trait.specs.Claim.{Claim}
-use Rattle.cloud_trait.specs.Machine.{Next, Goes, Ends, Stops}
-use Rattle.cloud_trait.specs.Seen.{Seen}
-use Rattle.cloud_trait.specs.State.{CloudState}
+use Rattle.cloud_trait.specs.Ask.{ListHeld, RemoveHeld}
 use Rattle.cloud_trait.specs.Weather.{Makes}
 use Rattle.session_facts.specs.Machines.Commits.Knows.{KnowsEnd}
 use Rattle.session_facts.specs.Machines.Commits.Audited.{noted_head as adds_head}
@@ -37,23 +29,16 @@ use Rattle.commit_writes.specs.declared.stage.Stage.TheVariants.{Waiting, Loggin
 use Rattle.commit_writes.specs.Writing.{Writing, send_ask, delete_ask, ask_at, opens_at}
 use Rattle.db_base.specs.declared.names.ObjName.TheVariants as object
 use Rattle.db_base.specs.declared.trouble.Trouble.TheVariants as trouble
-use Rattle.db_base.specs.declared.trouble.CommitAnswer.{CommitAnswer}
 use Rattle.db_base.specs.declared.trouble.CommitAnswer.TheVariants.{Committed, NotCommitted, InDoubt, CommittedOpen}
-use Rattle.head_codec.specs.declared.head.Head.{Head}
 use Rattle.history.specs.Audited.{Audited}
 use Rattle.cloud_facts.specs.Homes.Homes.{Part, Away, Parts}
-use Rattle.log_codec.specs.declared.record.AtomicRec.{AtomicRec}
 use Rattle.page_cache.specs.Cache.{Cache}
 use Rattle.recover_run.specs.declared.home.Home.{Home}
-use Rattle.report_types.specs.declared.entry.Entry.{Entry}
 use Rattle.session_facts.specs.Sessions.Audited.{noted_head, noted_at}
 use Rattle.session_facts.specs.Sessions.Knows.{leases_of, KnowsWork}
 use Rattle.session_facts.proofs.Sessions.Kept.{KnowsBoth, kept_from}
 use Rattle.session_facts.proofs.Sessions.Steps.Leases.{IsStepOf}
 use Rattle.session_facts.proofs.Sessions.Troubles.{memory_or}
-use Rattle.cloud_facts.specs.Book.Book.{Book}
-use Rattle.cloud_facts.specs.Book.Tally.{Store}
-use Rattle.cloud_facts.specs.Tellings.Told.{store_of}
 use Rattle.txn_buffer.specs.Noted.{Noted}
 
 -- ---- what the audit takes

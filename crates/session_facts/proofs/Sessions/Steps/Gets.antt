@@ -3,23 +3,14 @@ use Rattle.std.proofs.Common.{◌≡◌, ◌≤◌, List, [], ◌∷◌, inl, re
 use Rattle.client_work.specs.declared.work.Work.{Work}
 use Rattle.client_work.specs.declared.work.Work.TheVariants.{Broken}
 use Rattle.cloud_facts.specs.Calls.Acting.{Setting, Outcome, Handles}
-use Rattle.cloud_facts.specs.Calls.Call.{IsCall}
+use Rattle.cloud_facts.specs.Words.{ObjName, Entry, Answer as Reply, CloudState, Caller, Get, Book, Store, at, store_of, IsCall}
 use Rattle.cloud_facts.proofs.Calls.Outcomes.{quiet, gives_up, weaker}
-use Rattle.cloud_trait.specs.declared.answer.Answer.{Answer as Reply}
-use Rattle.cloud_trait.specs.Ask.{Get}
-use Rattle.cloud_trait.specs.Caller.{Caller}
-use Rattle.cloud_trait.specs.State.{CloudState}
-use Rattle.db_base.specs.declared.names.ObjName.{ObjName}
 use Rattle.cloud_facts.specs.Homes.Homes.{Away, Parts, HomesHold}
 use Rattle.page_cache.specs.Cache.{Cache}
 use Rattle.recover_run.specs.declared.home.Home.{Home}
-use Rattle.report_types.specs.declared.entry.Entry.{Entry}
 use Rattle.session_facts.specs.Sessions.Knows.{IsHome}
 use Rattle.session_facts.proofs.Sessions.Kept.{KnowsBoth}
 use Rattle.session_facts.proofs.Sessions.Steps.Leases.{part_again}
-use Rattle.cloud_facts.specs.Book.Book.{Book}
-use Rattle.cloud_facts.specs.Book.Tally.{Store, at}
-use Rattle.cloud_facts.specs.Tellings.Told.{store_of}
 
 module _ (who : Caller) (book : Book) (order : List Entry) (s t : CloudState) (parts : Parts) (home : Home) (name : ObjName)
     (setting : s.now ≤ t.now → Setting book order s t.now parts who.session (home.lease ∷ [])) (knows : s.now ≤ t.now → IsHome (store_of book order s) t.now home (parts who.session))

@@ -6,16 +6,9 @@ use Rattle.client_work.specs.declared.answer.Answer.TheVariants as answer
 use Rattle.client_work.specs.declared.work.Work.{Work}
 use Rattle.client_work.specs.declared.work.Work.TheVariants.{Closed, Opening}
 use Rattle.cloud_facts.specs.Calls.Acting.{Setting, Outcome, Handles}
-use Rattle.cloud_facts.specs.Calls.Call.{IsCall}
+use Rattle.cloud_facts.specs.Words.{Entry, Answer as Reply, Turn, More, Ended, Stopped, CloudState, Caller, Seen, Goes, Ends, Stops, Book, Store, store_of, IsCall}
 use Rattle.cloud_facts.proofs.Calls.Calls.{call_of}
 use Rattle.cloud_facts.proofs.Calls.Outcomes.{gives_up, weaker, fewer_handles}
-use Rattle.cloud_trait.specs.declared.answer.Answer.{Answer as Reply}
-use Rattle.cloud_trait.specs.declared.turn.Turn.{Turn}
-use Rattle.cloud_trait.specs.declared.turn.Turn.TheVariants.{More, Ended, Stopped}
-use Rattle.cloud_trait.specs.Caller.{Caller}
-use Rattle.cloud_trait.specs.Machine.{Goes, Ends, Stops}
-use Rattle.cloud_trait.specs.Seen.{Seen}
-use Rattle.cloud_trait.specs.State.{CloudState}
 use Rattle.cloud_trait.specs.Weather.{Makes}
 use Rattle.cloud_facts.specs.Homes.Homes.{Part, Parts}
 use Rattle.session_facts.specs.Machines.Openings.Knows.{KnowsOpening, KnowsEnd, KnowsNext, leases_of_recovery, leases_of_end, leases_of_next}
@@ -24,14 +17,10 @@ use Rattle.session_facts.proofs.Machines.Openings.Hands.{opening_handles}
 use Rattle.page_cache.specs.Cache.{Cache}
 use Rattle.recover_run.specs.declared.home.Home.{Home}
 use Rattle.recover_run.specs.Recovery.{Recovery, Step, recovery_ask, recovery_next, home_of, IsSound}
-use Rattle.report_types.specs.declared.entry.Entry.{Entry}
 use Rattle.session_facts.specs.Sessions.Knows.{leases_of, KnowsWork}
 use Rattle.session_facts.proofs.Sessions.Kept.{with_cache}
 use Rattle.session_facts.proofs.Sessions.Steps.Leases.{IsStepOf}
-use Rattle.cloud_facts.specs.Book.Book.{Book}
-use Rattle.cloud_facts.specs.Book.Tally.{Store}
 use Rattle.cloud_facts.proofs.Book.Places.{in_none}
-use Rattle.cloud_facts.specs.Tellings.Told.{store_of}
 use Rattle.session_facts.specs.Machines.Walks.Caches.{KnowsCache}
 
 -- what is in hand where a step leads

@@ -8,32 +8,21 @@ use Rattle.client_work.specs.declared.shown.Shown.{Shown}
 use Rattle.client_work.specs.declared.work.Work.{Work}
 use Rattle.client_work.specs.declared.work.Work.TheVariants.{Idle, Scanning, Broken}
 use Rattle.cloud_facts.specs.Calls.Acting.{Setting}
-use Rattle.cloud_facts.specs.Calls.Call.{IsCall}
+use Rattle.cloud_facts.specs.Words.{Trouble, Entry, Answer as Reply, Turn, More, Ended, Stopped, CloudState, Caller, Seen, Stops, Book, Store, store_of, IsCall}
 use Rattle.cloud_facts.proofs.Calls.Calls.{call_of}
-use Rattle.cloud_trait.specs.declared.answer.Answer.{Answer as Reply}
-use Rattle.cloud_trait.specs.declared.turn.Turn.{Turn}
-use Rattle.cloud_trait.specs.declared.turn.Turn.TheVariants.{More, Ended, Stopped}
-use Rattle.cloud_trait.specs.Caller.{Caller}
-use Rattle.cloud_trait.specs.Machine.{Stops, LeadsBy, Took}
-use Rattle.cloud_trait.specs.Seen.{Seen}
-use Rattle.cloud_trait.specs.State.{CloudState}
+use Rattle.cloud_trait.specs.Machine.{LeadsBy, Took}
 use Rattle.cloud_trait.specs.Weather.{Makes}
-use Rattle.db_base.specs.declared.trouble.Trouble.{Trouble}
 use Rattle.db_base.specs.declared.trouble.Trouble.TheVariants as trouble
 use Rattle.cloud_facts.specs.Homes.Homes.{Parts}
 use Rattle.page_cache.specs.Cache.{Cache}
 use Rattle.range_scan.specs.Scan.{Scan, scan_object, scan_ask, scan_next, moved_on, KeepsServed}
 use Rattle.recover_run.specs.declared.home.Home.{Home}
-use Rattle.report_types.specs.declared.entry.Entry.{Entry}
 use Rattle.session_facts.specs.Machines.Scans.Knows.{KnowsScan, KnowsScanning, IsAtScannedLeaf, ScanLeads}
 use Rattle.session_facts.proofs.Machines.Scans.Outcome.{scan_goes, scan_moves_on}
 use Rattle.session_facts.specs.Sessions.Knows.{IsHome}
 use Rattle.session_facts.proofs.Sessions.Steps.Gets.{get_handles, get_out, broken_out}
 use Rattle.session_facts.proofs.Sessions.Steps.Leases.{IsStepOf}
 use Rattle.session_facts.proofs.Sessions.Troubles.{stays_open}
-use Rattle.cloud_facts.specs.Book.Book.{Book}
-use Rattle.cloud_facts.specs.Book.Tally.{Store}
-use Rattle.cloud_facts.specs.Tellings.Told.{store_of}
 use Rattle.txn_buffer.specs.Noted.{Noted}
 use Rattle.session_facts.specs.Machines.Walks.Caches.{KnowsCache}
 use Rattle.session_facts.specs.Machines.Walks.Knows.{MayStopWalk}

@@ -5,25 +5,15 @@ use Rattle.client_work.specs.declared.answer.Answer.{Answer}
 use Rattle.client_work.specs.declared.answer.Answer.TheVariants as answer
 use Rattle.client_work.specs.declared.work.Work.{Work}
 use Rattle.client_work.specs.declared.work.Work.TheVariants.{Closed, Sweeping as SweepingOn}
-use Rattle.cloud_facts.specs.Book.Book.{Book}
+use Rattle.cloud_facts.specs.Words.{Entry, Answer as Reply, Turn, More, Ended, Stopped, CloudState, Caller, Seen, Goes, Book, store_of, IsCall}
 use Rattle.cloud_facts.specs.Calls.Acting.{Setting, Outcome}
-use Rattle.cloud_facts.specs.Calls.Call.{IsCall}
 use Rattle.cloud_facts.specs.Homes.Homes.{Parts}
-use Rattle.cloud_facts.specs.Tellings.Told.{store_of}
 use Rattle.cloud_facts.proofs.Calls.Calls.{call_of}
 use Rattle.cloud_facts.proofs.Calls.Outcomes.{gives_up, weaker}
-use Rattle.cloud_trait.specs.declared.answer.Answer.{Answer as Reply}
-use Rattle.cloud_trait.specs.declared.turn.Turn.{Turn}
-use Rattle.cloud_trait.specs.declared.turn.Turn.TheVariants.{More, Ended, Stopped}
-use Rattle.cloud_trait.specs.Caller.{Caller}
-use Rattle.cloud_trait.specs.Machine.{Goes}
-use Rattle.cloud_trait.specs.Seen.{Seen}
-use Rattle.cloud_trait.specs.State.{CloudState}
 use Rattle.cloud_trait.specs.Weather.{Makes}
 use Rattle.history.specs.Audited.{Audited}
 use Rattle.orphan_sweep.specs.Sweeping.{Sweeping, sweep_ask, sweep_next}
 use Rattle.page_cache.specs.Cache.{Cache}
-use Rattle.report_types.specs.declared.entry.Entry.{Entry}
 use Rattle.session_facts.specs.Sessions.Knows.{KnowsWork}
 use Rattle.session_facts.specs.Machines.Sweeps.Knows.{KnowsSweep, KnowsNext, KnowsAfter, leases_of_sweep}
 use Rattle.session_facts.specs.Machines.Walks.Caches.{KnowsCache}

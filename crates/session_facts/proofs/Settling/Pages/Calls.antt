@@ -3,26 +3,15 @@ use Rattle.std.proofs.Common.{◌≡◌, ◌⊎◌, inl, inr, ℕ, Bool, true, f
 use Rattle.std.specs.List.{AllByRecursion}
 use Rattle.std.proofs.lemmas.List.Elements.{recursion_from_All}
 use Rattle.cloud_facts.proofs.Chains.Pieces.{in_cases, in_first, in_rest, none_in}
-use Rattle.cloud_facts.specs.Book.Records.{IsIn}
-use Rattle.cloud_facts.specs.Calls.Call.{IsCall}
+use Rattle.cloud_facts.specs.Words.{Trouble, ObjName, QueueName, Lock, Answer, Version, Posted, CloudState, called, newest, Claim, Ask, GetHeld, Receive, Delete, Take, Release, Deed, calls_of, done_of, IsIn, IsCall}
 use Rattle.cloud_facts.proofs.Calls.Heads.{held_seen}
 use Rattle.cloud_trait.proofs.RowLemmas.{row_messages, row_versions}
-use Rattle.cloud_trait.specs.Ask.{Ask, GetHeld, Receive, Delete, Take, Release, TouchesNoMessage, PutsNothing}
-use Rattle.cloud_trait.specs.Claim.{Claim}
+use Rattle.cloud_trait.specs.Ask.{TouchesNoMessage, PutsNothing}
 use Rattle.cloud_trait.specs.Delivery.{WasSent, IsDelivering}
-use Rattle.cloud_trait.specs.Machine.{Deed, calls_of}
-use Rattle.cloud_trait.specs.State.{CloudState, called, newest, newest_of}
-use Rattle.cloud_trait.specs.Views.{done_of}
+use Rattle.cloud_trait.specs.State.{newest_of}
 use Rattle.cloud_trait.specs.Weather.{Leaves, Rose, Weather}
-use Rattle.cloud_trait.specs.declared.answer.Answer.{Answer}
 use Rattle.cloud_trait.specs.declared.answer.Answer.TheVariants.{Got, Received, Done, Given}
 use Rattle.cloud_trait.specs.declared.message.Message.{Message}
-use Rattle.cloud_trait.specs.declared.state.Posted.{Posted}
-use Rattle.cloud_trait.specs.declared.state.Version.{Version}
-use Rattle.db_base.specs.declared.names.Lock.{Lock}
-use Rattle.db_base.specs.declared.names.ObjName.{ObjName}
-use Rattle.db_base.specs.declared.names.QueueName.{QueueName}
-use Rattle.db_base.specs.declared.trouble.Trouble.{Trouble}
 use Rattle.page_ckpt.specs.Meaning.{Scene, Opening, Visit, Tried, scene_queue, opening_calls, put_over, right_put, home_put, visit_over, visits_over, deletes_over, tried_before, one_less, failed_count, main_calls, page_name, take_page}
 use Rattle.page_ckpt.specs.Paging.{went}
 use Rattle.session_facts.proofs.Settling.Trails.{IsBetween, Trail, between_call, Calls, AreQuiet, deletions_of, ask_is, answer_is}

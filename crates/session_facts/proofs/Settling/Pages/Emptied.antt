@@ -2,26 +2,17 @@
 use Rattle.std.proofs.Common.{◌≡◌, ◌≤◌, ℕ, List, [], ◌∷◌, length, Ok, sym, ap, subst, ◌∙◌, arith}
 use Rattle.std.specs.List.{AllByRecursion}
 use Rattle.ckpt_parts.specs.Intakes.{ids_of}
-use Rattle.cloud_facts.specs.Book.Records.{IsIn}
-use Rattle.cloud_facts.specs.Book.Tally.{Store}
-use Rattle.cloud_facts.specs.Book.Telling.{leaf_in, nodes_of, queue_of}
-use Rattle.cloud_facts.specs.Calls.Call.{IsCall}
+use Rattle.cloud_facts.specs.Words.{IsClient, IsTree, QueueName, Leaf, Ended, Posted, CloudState, called, Ask, Release, Ends, Deed, Store, IsIn, nodes_of, IsCall}
+use Rattle.cloud_facts.specs.Book.Telling.{leaf_in, queue_of}
 use Rattle.cloud_trait.proofs.RowLemmas.{row_messages}
-use Rattle.cloud_trait.specs.Ask.{Ask, Release}
 use Rattle.cloud_trait.specs.Delivery.{unmarked, WasSent, IsDelivering}
-use Rattle.cloud_trait.specs.Machine.{Ends, Deed}
-use Rattle.cloud_trait.specs.State.{CloudState, called}
 use Rattle.cloud_trait.specs.declared.message.Message.{Message}
-use Rattle.cloud_trait.specs.declared.state.Posted.{Posted}
 use Rattle.cloud_trait.specs.declared.turn.CkptAnswer.{CkptAnswer}
-use Rattle.cloud_trait.specs.declared.turn.Turn.TheVariants.{Ended}
 use Rattle.db_base.specs.Cursor.{number_of}
-use Rattle.db_base.specs.Ids.{IsClient, IsTree, IsPage}
+use Rattle.db_base.specs.Ids.{IsPage}
 use Rattle.db_base.specs.declared.names.Lock.TheVariants as lock
 use Rattle.db_base.specs.declared.names.ObjName.TheVariants as object
-use Rattle.db_base.specs.declared.names.QueueName.{QueueName}
 use Rattle.db_base.specs.declared.names.QueueName.TheVariants as queue
-use Rattle.leaf_view.specs.Leaf.{Leaf}
 use Rattle.leaf_view.specs.Lookup.{number_of as done_number}
 use Rattle.page_ckpt.proofs.Meaning.{went_knows, knows_done}
 use Rattle.page_ckpt.specs.Meaning.{scene, opening_calls, failed_count, main_calls, IsDone}

@@ -2,9 +2,7 @@
 use Rattle.std.proofs.Common.{◌≡◌, ◌≢◌, inl, inr, ℕ, refl, sym, subst, ◌∙◌}
 use Rattle.ckpt_parts.specs.declared.leases.Leases.{Leases}
 use Rattle.ckpt_parts.specs.Leasing.{claims_of, outstanding_after}
-use Rattle.cloud_facts.specs.Book.Tally.{Store}
-use Rattle.cloud_trait.specs.declared.answer.Answer.{Answer}
-use Rattle.cloud_trait.specs.Claim.{Claim}
+use Rattle.cloud_facts.specs.Words.{Answer, Claim, Store}
 use Rattle.db_base.specs.declared.names.Lock.TheVariants as lock
 use Rattle.page_ckpt.specs.declared.stage.Stage.{Stage}
 use Rattle.page_ckpt.specs.declared.stage.Stage.TheVariants.{TakingHome, TakingRight, ReleasingRight, Releasing, Finished}

@@ -5,36 +5,25 @@ use Rattle.cloud_facts.proofs.Calls.Calls.{put_cases, permitted, put_lasts}
 use Rattle.cloud_facts.proofs.Chains.Names.{last_added}
 use Rattle.cloud_facts.proofs.Decoding.Reading.{node_reads}
 use Rattle.cloud_facts.proofs.Decoding.Versions.{bytes_added}
-use Rattle.cloud_facts.specs.Book.Book.{Book}
-use Rattle.cloud_facts.specs.Book.Tally.{Leafy, right_of}
-use Rattle.cloud_facts.specs.Book.Telling.{last_or, node_in, with_bytes, nodes_of}
-use Rattle.cloud_facts.specs.Calls.Call.{IsCall}
+use Rattle.cloud_facts.specs.Words.{ObjName, Entry, PuItem, Leaf, Answer, Version, CloudState, called, Caller, Claim, Ask, GetHeld, PutHeld, Receive, Delete, Release, done_of, Book, Leafy, nodes_of, store_of, IsCall}
+use Rattle.cloud_facts.specs.Book.Tally.{right_of}
+use Rattle.cloud_facts.specs.Book.Telling.{last_or, node_in, with_bytes}
 use Rattle.cloud_facts.specs.Chains.Links.{newest_node}
-use Rattle.cloud_facts.specs.Tellings.Told.{store_of}
 use Rattle.cloud_trait.proofs.NameLemmas.{object_cmp-equal}
 use Rattle.cloud_trait.proofs.RowLemmas.{row_versions}
 use Rattle.cloud_trait.proofs.StateLemmas.{put_at_by}
-use Rattle.cloud_trait.specs.Ask.{Ask, PutHeld, GetHeld, Receive, Delete, Release, Lands, PutsNothing}
-use Rattle.cloud_trait.specs.Caller.{Caller}
-use Rattle.cloud_trait.specs.Claim.{Claim}
+use Rattle.cloud_trait.specs.Ask.{Lands, PutsNothing}
 use Rattle.cloud_trait.specs.Names.{object_cmp}
-use Rattle.cloud_trait.specs.State.{CloudState, called}
-use Rattle.cloud_trait.specs.Views.{done_of}
-use Rattle.cloud_trait.specs.declared.answer.Answer.{Answer}
-use Rattle.cloud_trait.specs.declared.state.Version.{Version}
 use Rattle.ckpt_parts.specs.Deleting.{next_id}
 use Rattle.ckpt_parts.specs.Leasing.{newest_lease}
 use Rattle.ckpt_parts.specs.declared.leases.Leases.{Leases}
-use Rattle.db_base.specs.declared.names.ObjName.{ObjName}
 use Rattle.db_base.specs.declared.names.ObjName.TheVariants as object
 use Rattle.leaf_edit.specs.Applied.{applied}
-use Rattle.leaf_view.specs.Leaf.{Leaf, IsLeaf}
+use Rattle.leaf_view.specs.Leaf.{IsLeaf}
 use Rattle.leaf_view.specs.Lookup.{empty_leaf}
-use Rattle.log_codec.specs.declared.record.PuItem.{PuItem}
 use Rattle.page_ckpt.specs.Paging.{Paging, ask_at, paging_ask, under, home_name, right_name, own_queue, take_home, take_right, delete_next}
 use Rattle.page_ckpt.specs.declared.stage.Stage.{Stage}
 use Rattle.page_ckpt.specs.declared.stage.Stage.TheVariants.{TakingHome, GettingHome, Receiving, TakingRight, GettingRight, PuttingRight, ReleasingRight, PuttingHome, Deleting as DeletingNext, Releasing, Finished}
-use Rattle.report_types.specs.declared.entry.Entry.{Entry}
 use Rattle.session_facts.proofs.Machines.PageCheckpoints.Others.{paging_later}
 use Rattle.session_facts.specs.Machines.PageCheckpoints.Knows.{KnowsPagingAt, KnowsPaging}
 use Rattle.session_facts.specs.Machines.PageCheckpoints.Rights.{IsNewestLeaf}

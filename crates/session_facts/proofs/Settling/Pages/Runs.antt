@@ -5,18 +5,9 @@ use Rattle.std.proofs.lemmas.List.{length-map, nil_from_length}
 use Rattle.std.proofs.lemmas.List.Sums.{length-filter, count_by-le-length}
 use Rattle.ckpt_parts.specs.Intakes.{has_items, items_of}
 use Rattle.cloud_facts.proofs.Chains.Pieces.{none_in}
-use Rattle.cloud_facts.specs.Book.Book.{Link}
+use Rattle.cloud_facts.specs.Words.{IsTree, PuItem, Answer, Claim, Ask, Goes, Ends, Deed, calls_of, done_of, Link, Store, IsIn}
 use Rattle.cloud_facts.specs.Book.Growth.{Grows}
-use Rattle.cloud_facts.specs.Book.Records.{IsIn}
-use Rattle.cloud_facts.specs.Book.Tally.{Store}
-use Rattle.cloud_trait.specs.Ask.{Ask}
-use Rattle.cloud_trait.specs.Claim.{Claim}
-use Rattle.cloud_trait.specs.Machine.{Goes, Ends, Deed, calls_of}
-use Rattle.cloud_trait.specs.Views.{done_of}
-use Rattle.cloud_trait.specs.declared.answer.Answer.{Answer}
 use Rattle.cloud_trait.specs.declared.message.Message.{Message}
-use Rattle.db_base.specs.Ids.{IsTree}
-use Rattle.log_codec.specs.declared.record.PuItem.{PuItem}
 use Rattle.page_ckpt.proofs.Meaning.{KnowsAt, Knows, went_knows}
 use Rattle.page_ckpt.proofs.Leases.{went_stands, stands_few}
 use Rattle.page_ckpt.specs.Meaning.{Calls, Scene, Opening, Visit, Works, Tried, scene, tried_before, one_more, one_less, went_count, failed_count, deletes_over, main_calls}

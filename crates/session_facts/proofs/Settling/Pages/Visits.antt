@@ -4,10 +4,9 @@ use Rattle.std.specs.Prelude.{◌||◌, ◌==◌}
 use Rattle.std.specs.List.{list_any}
 use Rattle.std.proofs.lemmas.Bool.{eq-eqb}
 use Rattle.cloud_facts.proofs.Copies.Tops.{any_of}
-use Rattle.cloud_facts.specs.Book.Records.{IsIn, Apart}
-use Rattle.cloud_trait.specs.declared.answer.Answer.{Answer}
-use Rattle.cloud_trait.specs.Machine.{Goes, Ends, Stops, Deed, Came}
-use Rattle.db_base.specs.declared.trouble.Trouble.{Trouble}
+use Rattle.cloud_facts.specs.Words.{Trouble, Answer, Goes, Ends, Stops, Deed, IsIn}
+use Rattle.cloud_facts.specs.Book.Records.{Apart}
+use Rattle.cloud_trait.specs.Machine.{Came}
 use Rattle.page_ckpt.specs.declared.link.Link.{Link}
 use Rattle.page_ckpt.specs.declared.stage.Stage.TheVariants.{TakingRight, Releasing}
 use Rattle.page_ckpt.specs.Paging.{Paging, Step, new_paging, paging_ask, PagingLeads}

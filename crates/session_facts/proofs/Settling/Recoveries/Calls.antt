@@ -10,19 +10,16 @@ use Rattle.std.proofs.lemmas.Map.Keys.{IsDistinct-push}
 use Rattle.std.proofs.lemmas.Map.Made.{length-le_from_is_member}
 use Rattle.cloud_trait.specs.Calm.{IsCalm, AreCalm, AreAlone}
 use Rattle.cloud_trait.proofs.CalmLemmas.{delivers}
-use Rattle.cloud_trait.specs.declared.answer.Answer.{Answer}
+use Rattle.cloud_facts.specs.Words.{ObjName, Answer, Version, CloudState, called, newest, Claim, Ask, Get, GetHeld, PutHeld, Send, Receive, Delete, Take, Renew, Release, Deed, calls_of}
 use Rattle.cloud_trait.specs.declared.answer.Answer.TheVariants.{Got, Sent, Received, Listed, Done, Given, Held, Renewed, Late, Failed, Memory}
 use Rattle.cloud_trait.specs.declared.message.Message.{Message}
-use Rattle.cloud_trait.specs.declared.state.Version.{Version}
-use Rattle.cloud_trait.specs.Ask.{Ask, Get, GetHeld, PutHeld, ListHeld, RemoveHeld, Send, Receive, Delete, Take, Renew, Release}
-use Rattle.cloud_trait.specs.Claim.{Claim}
+use Rattle.cloud_trait.specs.Ask.{ListHeld, RemoveHeld}
 use Rattle.cloud_trait.specs.Delivery.{unmarked}
-use Rattle.cloud_trait.specs.Machine.{Deed, IsMade, calls_of}
-use Rattle.cloud_trait.specs.State.{CloudState, newest, newest_of, called}
+use Rattle.cloud_trait.specs.Machine.{IsMade}
+use Rattle.cloud_trait.specs.State.{newest_of}
 use Rattle.cloud_trait.specs.Weather.{Weather, Leaves, Fits}
 use Rattle.cloud_trait.proofs.RowLemmas.{row_versions}
 use Rattle.db_base.specs.declared.names.Lock.TheVariants as lock
-use Rattle.db_base.specs.declared.names.ObjName.{ObjName}
 use Rattle.db_base.specs.declared.names.ObjName.TheVariants as object
 use Rattle.db_base.specs.declared.names.QueueName.TheVariants as queue
 use Rattle.head_codec.proofs.Keeping.{AllByRecursion-append}

@@ -5,31 +5,20 @@ use Rattle.cloud_trait.specs.Calm.{IsCalm, AreCalm, AreAlone}
 use Rattle.cloud_trait.specs.Plenty.{HadMemory}
 use Rattle.cloud_facts.proofs.Calls.Calls.{put_lasts}
 use Rattle.cloud_facts.proofs.Calls.Heads.{head_at, newest_head}
-use Rattle.cloud_facts.specs.Book.Book.{Book}
-use Rattle.cloud_facts.specs.Book.Tally.{Store}
+use Rattle.cloud_facts.specs.Words.{Trouble, ObjName, Entry, Head, Answer, Ended, Version, CloudState, called, newest, Claim, Lasts, Ask, GetHeld, PutHeld, Release, Goes, Ends, Stops, Deed, calls_of, got_of, Book, Store, store_of}
 use Rattle.cloud_facts.specs.Calls.Acting.{IsPruned}
 use Rattle.cloud_facts.specs.Homes.Homes.{Part}
-use Rattle.cloud_facts.specs.Tellings.Told.{store_of}
-use Rattle.cloud_trait.specs.declared.answer.Answer.{Answer}
 use Rattle.cloud_trait.specs.declared.answer.Answer.TheVariants.{Got, Done}
 use Rattle.cloud_trait.specs.declared.message.Message.{Message}
-use Rattle.cloud_trait.specs.declared.turn.Turn.TheVariants.{Ended}
-use Rattle.cloud_trait.specs.declared.state.Version.{Version}
-use Rattle.cloud_trait.specs.Ask.{Ask, GetHeld, PutHeld, Release, PutsNothing}
-use Rattle.cloud_trait.specs.Claim.{Claim, Lasts}
+use Rattle.cloud_trait.specs.Ask.{PutsNothing}
 use Rattle.cloud_trait.specs.Delivery.{unmarked}
-use Rattle.cloud_trait.specs.Machine.{Goes, Ends, Stops, Deed, IsMade, calls_of}
-use Rattle.cloud_trait.specs.State.{CloudState, newest, newest_of, called}
-use Rattle.cloud_trait.specs.Views.{got_of}
+use Rattle.cloud_trait.specs.Machine.{IsMade}
+use Rattle.cloud_trait.specs.State.{newest_of}
 use Rattle.cloud_trait.specs.Weather.{Weather}
 use Rattle.cloud_trait.proofs.RowLemmas.{row_versions}
-use Rattle.db_base.specs.declared.names.ObjName.{ObjName}
 use Rattle.db_base.specs.declared.names.ObjName.TheVariants as object
 use Rattle.db_base.specs.declared.names.QueueName.TheVariants as queue
-use Rattle.db_base.specs.declared.trouble.Trouble.{Trouble}
-use Rattle.head_codec.specs.declared.head.Head.{Head}
 use Rattle.head_codec.specs.declared.head.Phase.TheVariants.{Settled}
-use Rattle.report_types.specs.declared.entry.Entry.{Entry}
 use Rattle.recover_run.specs.declared.stage.Aim.TheVariants.{Settling}
 use Rattle.recover_run.specs.declared.stage.RecoverAnswer.{RecoverAnswer}
 use Rattle.recover_run.specs.declared.stage.RecoverAnswer.TheVariants.{Opened, Nothing}

@@ -7,19 +7,14 @@ use Rattle.ckpt_parts.specs.declared.leases.Leases.{Leases}
 use Rattle.ckpt_parts.specs.Deleting.{next_id, tried}
 use Rattle.ckpt_parts.specs.Intakes.{has_items, TakesIn}
 use Rattle.ckpt_parts.specs.Leasing.{claims_of, newest_lease, without_newest}
-use Rattle.cloud_trait.specs.declared.answer.Answer.{Answer}
+use Rattle.cloud_facts.specs.Words.{Trouble, PuItem, Answer, Claim, Next, Goes, Ends, Stops, done_of, got_of, received_of}
 use Rattle.cloud_trait.specs.declared.message.Message.{Message}
-use Rattle.cloud_trait.specs.Claim.{Claim}
-use Rattle.cloud_trait.specs.Machine.{Next, Goes, Ends, Stops}
-use Rattle.cloud_trait.specs.Views.{got_of, done_of, received_of}
 use Rattle.db_base.specs.declared.names.QueueName.TheVariants as queue
-use Rattle.db_base.specs.declared.trouble.Trouble.{Trouble}
 use Rattle.tree_phases.specs.declared.folding.Folding.{Folding}
 use Rattle.tree_phases.specs.declared.folding.Left.{Left}
 use Rattle.tree_phases.specs.declared.folding.Left.TheVariants.{Right, Handled}
 use Rattle.tree_phases.specs.Folding as fold
 use Rattle.tree_phases.specs.Folding.{no_placing}
-use Rattle.log_codec.specs.declared.record.PuItem.{PuItem}
 use Rattle.run_cursor.specs.Run.{Taken}
 use Rattle.split_plan.specs.declared.put_list.PagePut.{PagePut}
 use Rattle.tree_ckpt.proofs.Charts.{GoesFurther, arrive_further, descent_further}

@@ -3,35 +3,21 @@ use Rattle.std.proofs.Common.{◌≡◌, ◌≤◌, ◌⊎◌, inl, inr, ℕ, Bo
 use Rattle.ckpt_parts.specs.Intakes.{ids_of}
 use Rattle.cloud_facts.proofs.Calls.Heads.{held_seen}
 use Rattle.cloud_facts.proofs.Chains.Pieces.{none_in, in_first, in_rest, in_cases}
-use Rattle.cloud_facts.specs.Book.Book.{Book}
-use Rattle.cloud_facts.specs.Book.Records.{IsIn}
-use Rattle.cloud_facts.specs.Book.Telling.{roots_of}
-use Rattle.cloud_facts.specs.Calls.Call.{IsCall}
+use Rattle.cloud_facts.specs.Words.{IsClient, Trouble, QueueName, Entry, Tree, Answer, Posted, CloudState, called, newest, Caller, Claim, Ask, Get, GetHeld, PutHeld, Send, Receive, Delete, Take, Renew, Release, done_of, Book, IsIn, roots_of, store_of, IsCall}
 use Rattle.cloud_facts.specs.Chains.Links.{top_of}
 use Rattle.cloud_facts.specs.Copies.Copies.{Copies}
-use Rattle.cloud_facts.specs.Tellings.Told.{store_of}
 use Rattle.cloud_trait.proofs.NameLemmas.{queue_cmp-total}
 use Rattle.cloud_trait.proofs.RowLemmas.{row_messages}
 use Rattle.cloud_trait.proofs.StateLemmas.{put_at_same}
-use Rattle.cloud_trait.specs.Ask.{Ask, Get, GetHeld, PutHeld, ListHeld, RemoveHeld, Send, Receive, Delete, Take, Renew, Release, TouchesNoMessage}
-use Rattle.cloud_trait.specs.Caller.{Caller}
-use Rattle.cloud_trait.specs.Claim.{Claim}
+use Rattle.cloud_trait.specs.Ask.{ListHeld, RemoveHeld, TouchesNoMessage}
 use Rattle.cloud_trait.specs.Delivery.{unmarked, WasSent, IsDelivering}
 use Rattle.cloud_trait.specs.Names.{queue_cmp}
-use Rattle.cloud_trait.specs.State.{CloudState, called, newest, marked}
-use Rattle.cloud_trait.specs.Views.{done_of}
-use Rattle.cloud_trait.specs.declared.answer.Answer.{Answer}
+use Rattle.cloud_trait.specs.State.{marked}
 use Rattle.cloud_trait.specs.declared.answer.Answer.TheVariants as call
 use Rattle.cloud_trait.specs.declared.message.Message.{Message}
-use Rattle.cloud_trait.specs.declared.state.Posted.{Posted}
 use Rattle.db_base.specs.Cursor.{number_of}
-use Rattle.db_base.specs.Ids.{IsClient}
 use Rattle.db_base.specs.declared.names.ObjName.TheVariants as object
-use Rattle.db_base.specs.declared.names.QueueName.{QueueName}
 use Rattle.db_base.specs.declared.names.QueueName.TheVariants as queue
-use Rattle.db_base.specs.declared.trouble.Trouble.{Trouble}
-use Rattle.node_codec.specs.Tree.{Tree}
-use Rattle.report_types.specs.declared.entry.Entry.{Entry}
 use Rattle.run_cursor.specs.Covered.{covered_ids}
 use Rattle.run_cursor.specs.Run.{Taken}
 use Rattle.session_facts.proofs.Settling.Drains.{left_by, marked_over, waiting_over, left_count, left_kept, all_covered, covered_received}

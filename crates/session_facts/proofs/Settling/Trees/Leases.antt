@@ -2,11 +2,8 @@
 use Rattle.std.proofs.Common.{◌≡◌, ◌≢◌, ℕ, [], ◌∷◌, Option, Some, None, refl, sym, ◌∙◌}
 use Rattle.ckpt_parts.specs.Deleting.{next_id}
 use Rattle.ckpt_parts.specs.Leasing.{claims_of, newest_lease, outstanding_after}
-use Rattle.cloud_facts.specs.Book.Tally.{Store}
-use Rattle.cloud_trait.specs.declared.answer.Answer.{Answer}
+use Rattle.cloud_facts.specs.Words.{Answer, Claim, Next, Goes, Ends, Stops, Store}
 use Rattle.cloud_trait.specs.declared.turn.CkptAnswer.{CkptAnswer}
-use Rattle.cloud_trait.specs.Claim.{Claim}
-use Rattle.cloud_trait.specs.Machine.{Next, Goes, Ends, Stops}
 use Rattle.db_base.specs.declared.names.Lock.TheVariants as lock
 use Rattle.tree_phases.specs.Folding.{folding_ask}
 use Rattle.session_facts.specs.Settling.Locks.{UsesOwn}

@@ -1,16 +1,12 @@
 -- How many pages the plans of a tree checkpoint put, beside those for which they reserve a number.
 use Rattle.std.proofs.Common.{◌≡◌, ◌+◌, ◌-◌, ◌≤◌, ◌⊎◌, inl, inr, ℕ, List, [], ◌∷◌, ◌++◌, length, map, reverse, Option, Some, None, Result, Ok, refl, sym, ap, subst, ◌∙◌, arith}
 use Rattle.std.proofs.lemmas.List.{length-map, length-reverse}
-use Rattle.cloud_trait.specs.Machine.{Goes, Ends, Stops}
-use Rattle.db_base.specs.declared.trouble.Trouble.{Trouble}
+use Rattle.cloud_facts.specs.Words.{Trouble, PuItem, Leaf, Tree, Goes, Ends, Stops}
 use Rattle.tree_phases.specs.declared.folding.Folding.{Folding}
 use Rattle.tree_phases.specs.declared.folding.Left.TheVariants.{Right, Handled}
 use Rattle.tree_phases.specs.declared.page_plan.PagePlan.{PagePlan}
 use Rattle.tree_phases.specs.Plan.{leaf_plan}
 use Rattle.tree_phases.specs.Folding.{FoldingStep, no_placing, leaf_got}
-use Rattle.leaf_view.specs.Leaf.{Leaf}
-use Rattle.log_codec.specs.declared.record.PuItem.{PuItem}
-use Rattle.node_codec.specs.Tree.{Tree}
 use Rattle.session_facts.specs.Machines.TreeCheckpoints.Counting.{pieces_by, piece_calls}
 use Rattle.split_plan.specs.declared.entry_list.NewEntry.{NewEntry}
 use Rattle.split_plan.specs.Part.{Part}

@@ -6,22 +6,15 @@ use Rattle.std.proofs.lemmas.List.{length-map}
 use Rattle.cloud_facts.proofs.Chains.Pieces.{none_in, in_first, in_rest, in_cases}
 use Rattle.cloud_facts.proofs.Decoding.Newest.{IsLast, last_cases, last_map}
 use Rattle.cloud_facts.proofs.Meanings.Steps.{not_passed}
-use Rattle.cloud_facts.specs.Book.Book.{Book}
-use Rattle.cloud_facts.specs.Book.Records.{IsIn, Apart}
-use Rattle.cloud_facts.specs.Book.Tally.{Store}
-use Rattle.cloud_facts.specs.Book.Telling.{root_in, nodes_of, roots_of}
-use Rattle.cloud_facts.specs.Calls.Standing.{StandsUnder}
+use Rattle.cloud_facts.specs.Words.{IsTree, Entry, Tree, Version, CloudState, newest, Claim, Lasts, Book, Store, IsIn, nodes_of, roots_of, store_of, StandsUnder}
+use Rattle.cloud_facts.specs.Book.Records.{Apart}
+use Rattle.cloud_facts.specs.Book.Telling.{root_in}
 use Rattle.cloud_facts.specs.Chains.Chain.{IsChained}
 use Rattle.cloud_facts.specs.Chains.Links.{top_of}
-use Rattle.cloud_facts.specs.Tellings.Told.{store_of}
-use Rattle.cloud_trait.specs.Claim.{Claim, Lasts}
-use Rattle.cloud_trait.specs.State.{CloudState, newest, newest_of}
-use Rattle.cloud_trait.specs.declared.state.Version.{Version}
-use Rattle.db_base.specs.Ids.{IsTree}
+use Rattle.cloud_trait.specs.State.{newest_of}
 use Rattle.db_base.specs.declared.names.ObjName.TheVariants as object
 use Rattle.tree_phases.specs.declared.folding.Folding.{Folding}
-use Rattle.node_codec.specs.Tree.{Tree, empty_tree, tree_of}
-use Rattle.report_types.specs.declared.entry.Entry.{Entry}
+use Rattle.node_codec.specs.Tree.{empty_tree, tree_of}
 use Rattle.run_cursor.specs.Covered.{is_seen}
 use Rattle.session_facts.proofs.Settling.Trees.Calls.{HasRoom, Reserving, own_of, FitsLeaf, FitsWork}
 use Rattle.session_facts.proofs.Settling.Trees.Lists.{pages_fit}

@@ -1,9 +1,6 @@
 -- The tree object that a tree checkpoint has in hand, from step to step.
 use Rattle.std.proofs.Common.{◌≡◌, ℕ, true, false, List, Option, Result, Ok, refl, sym, ap, subst, ◌∙◌}
-use Rattle.cloud_trait.specs.declared.answer.Answer.{Answer}
-use Rattle.cloud_trait.specs.Machine.{Next, Goes, Ends, Stops}
-use Rattle.cloud_trait.specs.Views.{got_of, done_of}
-use Rattle.db_base.specs.declared.trouble.Trouble.{Trouble}
+use Rattle.cloud_facts.specs.Words.{Trouble, Answer, Next, Goes, Ends, Stops, done_of, got_of}
 use Rattle.tree_phases.specs.declared.folding.Folding.{Folding}
 use Rattle.tree_phases.specs.declared.folding.Left.{Left}
 use Rattle.tree_phases.specs.declared.folding.Left.TheVariants.{Right, Handled}

@@ -2,18 +2,15 @@
 use Rattle.std.proofs.Common.{◌≡◌, ◌+◌, ◌*◌, ◌≤◌, ◌⊎◌, inl, inr, ℕ, List, [], ◌∷◌, length, Option, Some, None, sym, ap, subst, ◌∙◌, arith}
 use Rattle.std.proofs.lemmas.List.{length-map}
 use Rattle.ckpt_parts.specs.Deleting.{next_id}
-use Rattle.cloud_facts.specs.Calls.Call.{IsCall}
+use Rattle.cloud_facts.specs.Words.{Answer, Ended, CloudState, called, Caller, Ask, Get, GetHeld, PutHeld, Send, Receive, Delete, Take, Renew, Release, Next, Goes, Ends, Stops, Deed, calls_of, IsCall}
 use Rattle.cloud_trait.proofs.RowLemmas.{row_messages}
-use Rattle.cloud_trait.specs.Ask.{Ask, Get, GetHeld, PutHeld, ListHeld, RemoveHeld, Send, Receive, Delete, Take, Renew, Release}
-use Rattle.cloud_trait.specs.Caller.{Caller}
+use Rattle.cloud_trait.specs.Ask.{ListHeld, RemoveHeld}
 use Rattle.cloud_trait.specs.Delivery.{IsDelivering}
-use Rattle.cloud_trait.specs.Machine.{Next, Goes, Ends, Stops, Deed, Came, calls_of}
-use Rattle.cloud_trait.specs.State.{CloudState, Counts, called}
+use Rattle.cloud_trait.specs.Machine.{Came}
+use Rattle.cloud_trait.specs.State.{Counts}
 use Rattle.cloud_trait.specs.Weather.{Fits, Leaves, Rose}
-use Rattle.cloud_trait.specs.declared.answer.Answer.{Answer}
 use Rattle.cloud_trait.specs.declared.answer.Answer.TheVariants.{Received}
 use Rattle.cloud_trait.specs.declared.turn.CkptAnswer.{CkptAnswer}
-use Rattle.cloud_trait.specs.declared.turn.Turn.TheVariants.{Ended}
 use Rattle.db_base.specs.declared.names.QueueName.TheVariants as queue
 use Rattle.page_ckpt.specs.Paging.{Paging}
 use Rattle.recover_run.specs.declared.stage.RecoverAnswer.{RecoverAnswer}

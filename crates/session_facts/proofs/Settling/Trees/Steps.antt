@@ -5,20 +5,13 @@ use Rattle.ckpt_parts.specs.Deleting.{next_id}
 use Rattle.ckpt_parts.specs.Leasing.{newest_lease}
 use Rattle.cloud_facts.proofs.Calls.Calls.{landed_or_not, put_cases}
 use Rattle.cloud_facts.proofs.Calls.Heads.{held_seen}
-use Rattle.cloud_facts.specs.Book.Tally.{Store}
-use Rattle.cloud_facts.specs.Calls.Call.{IsCall}
+use Rattle.cloud_facts.specs.Words.{ObjName, Answer, Version, CloudState, called, newest, Caller, Claim, Ask, GetHeld, PutHeld, Send, Receive, Delete, Release, done_of, Store, IsCall}
 use Rattle.cloud_trait.proofs.NameLemmas.{object_cmp-equal, object_cmp-total}
 use Rattle.cloud_trait.proofs.RowLemmas.{row_versions}
 use Rattle.cloud_trait.proofs.StateLemmas.{put_at_by, put_at_same, newest_of-push}
-use Rattle.cloud_trait.specs.Ask.{Ask, GetHeld, PutHeld, Send, Receive, Delete, Release, Lands, PutsNothing, effect}
-use Rattle.cloud_trait.specs.Caller.{Caller}
-use Rattle.cloud_trait.specs.Claim.{Claim}
+use Rattle.cloud_trait.specs.Ask.{Lands, PutsNothing, effect}
 use Rattle.cloud_trait.specs.Names.{object_cmp}
-use Rattle.cloud_trait.specs.State.{CloudState, called, newest, newest_of}
-use Rattle.cloud_trait.specs.Views.{done_of}
-use Rattle.cloud_trait.specs.declared.answer.Answer.{Answer}
-use Rattle.cloud_trait.specs.declared.state.Version.{Version}
-use Rattle.db_base.specs.declared.names.ObjName.{ObjName}
+use Rattle.cloud_trait.specs.State.{newest_of}
 use Rattle.db_base.specs.declared.names.ObjName.TheVariants as object
 use Rattle.session_facts.proofs.Settling.Trees.Roots.{NewestBy}
 use Rattle.session_facts.specs.Machines.TreeCheckpoints.Knows.{KnowsWork}

@@ -1,22 +1,11 @@
 -- A tree checkpoint from call to call: no page was visited twice, no tree object in hand has more pages than the newest one, and few calls were made.
 use Rattle.std.proofs.Common.{◌≡◌, ◌+◌, ◌*◌, ◌<◌, ◌≤◌, ◌⊎◌, inl, inr, ℕ, Bool, true, false, List, [], length, Option, Some, None, Result, Ok, Err, refl, sym, ap, subst, ◌∙◌, arith}
-use Rattle.cloud_facts.specs.Book.Book.{Book}
-use Rattle.cloud_facts.specs.Book.Tally.{Store}
-use Rattle.cloud_facts.specs.Calls.Call.{IsCall}
-use Rattle.cloud_facts.specs.Calls.Standing.{StandsUnder}
-use Rattle.cloud_facts.specs.Tellings.Told.{store_of}
-use Rattle.cloud_trait.specs.Caller.{Caller}
-use Rattle.cloud_trait.specs.Machine.{Goes}
-use Rattle.cloud_trait.specs.State.{CloudState, newest}
-use Rattle.cloud_trait.specs.Views.{got_of, done_of, received_of}
+use Rattle.cloud_facts.specs.Words.{Trouble, Entry, Answer, CloudState, newest, Caller, Goes, done_of, got_of, received_of, Book, Store, store_of, IsCall, StandsUnder}
 use Rattle.cloud_trait.specs.Weather.{Fits}
-use Rattle.cloud_trait.specs.declared.answer.Answer.{Answer}
 use Rattle.cloud_trait.specs.declared.message.Message.{Message}
 use Rattle.ckpt_parts.specs.Intakes.{ids_of}
 use Rattle.db_base.specs.declared.names.ObjName.TheVariants as object
 use Rattle.db_base.specs.declared.names.QueueName.TheVariants as queue
-use Rattle.db_base.specs.declared.trouble.Trouble.{Trouble}
-use Rattle.report_types.specs.declared.entry.Entry.{Entry}
 use Rattle.session_facts.proofs.Settling.Trees.Calls.{before_step, goes_fewer, one_left}
 use Rattle.session_facts.proofs.Settling.Trees.Receives.{intake_fits, received_sent, IsReceiving, received_stays}
 use Rattle.session_facts.proofs.Settling.Trees.Room.{held_top, work_fits, work_new}

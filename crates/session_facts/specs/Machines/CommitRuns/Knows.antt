@@ -1,7 +1,6 @@
 -- What a commit run knows of the cloud at each of its calls, beside its session's cache.
 use Rattle.std.specs.Prelude.{ℕ, ◌≡◌, ◌≤◌, List, [], length}
-use Rattle.cloud_trait.specs.Claim.{Lasts}
-use Rattle.cloud_trait.specs.Machine.{Next, Goes, Ends, Stops}
+use Rattle.cloud_facts.specs.Words.{CommitAnswer, Lasts, Next, Goes, Ends, Stops, Book, Store, IsIn}
 use Rattle.session_facts.specs.Machines.Commits.Knows.{MayCommit, AreLeavesFor, KnowsTaken, KnowsCommit, KnowsEnd}
 use Rattle.commit_run.specs.Ended.{Ended}
 use Rattle.commit_run.specs.Plan.{Plan}
@@ -9,12 +8,8 @@ use Rattle.commit_run.specs.declared.hand.Hand.{Hand}
 use Rattle.commit_run.specs.declared.hand.Hand.TheVariants.{Writes, First, Change}
 use Rattle.commit_run.specs.Draft.{Draft}
 use Rattle.commit_run.specs.Run.{Run, home_of}
-use Rattle.db_base.specs.declared.trouble.CommitAnswer.{CommitAnswer}
 use Rattle.cloud_facts.specs.Homes.Homes.{Part, Away}
 use Rattle.page_cache.specs.Cache.{Cache}
-use Rattle.cloud_facts.specs.Book.Book.{Book}
-use Rattle.cloud_facts.specs.Book.Records.{IsIn}
-use Rattle.cloud_facts.specs.Book.Tally.{Store}
 use Rattle.tree_walk.specs.Walk.{Walk}
 use Rattle.txn_buffer.specs.Noted.{Noted}
 use Rattle.session_facts.specs.Machines.Walks.Caches.{KnowsCache}

@@ -2,32 +2,24 @@
 use Rattle.std.specs.Prelude.{ℕ, ◌≡◌, ◌+◌, ◌<◌, ◌≤◌, ◌⊎◌, List, [], length, take, IsTrue}
 use Rattle.cloud_facts.specs.Calls.Acting.{IsPruned}
 use Rattle.cloud_facts.specs.Calls.Others.{WasSentOn}
-use Rattle.cloud_trait.specs.Claim.{Claim, Lasts}
-use Rattle.cloud_trait.specs.Machine.{Next, Goes, Ends, Stops}
+use Rattle.cloud_facts.specs.Words.{IsClient, IsTree, CommitAnswer, AtomicRec, Head, Claim, Lasts, Next, Goes, Ends, Stops, Book, Store, at, IsIn, StandsAt}
 use Rattle.commit_writes.specs.declared.stage.Stage.{Stage}
 use Rattle.commit_writes.specs.declared.stage.Stage.TheVariants.{Waiting, Logging, Opening, Sending, Settling, Deleting, Finished}
 use Rattle.commit_writes.specs.Writing.{Writing, before_of}
 use Rattle.db_base.specs.Change.{goes_to_leaf, key_of, IsChange}
-use Rattle.db_base.specs.Ids.{IsClient, IsTree}
 use Rattle.db_base.specs.declared.change.Change.{Change}
 use Rattle.db_base.specs.declared.names.Lock.TheVariants as lock
-use Rattle.db_base.specs.declared.trouble.CommitAnswer.{CommitAnswer}
 use Rattle.db_base.specs.declared.trouble.CommitAnswer.TheVariants.{Committed, NotCommitted, InDoubt, CommittedOpen}
-use Rattle.head_codec.specs.declared.head.Head.{Head}
 use Rattle.head_codec.specs.declared.head.Phase.TheVariants.{Settled, Open}
 use Rattle.cloud_facts.specs.Homes.Homes.{Home, Part, Away, AtHome, Parts, HomesHold}
 use Rattle.cloud_facts.specs.Lefts.Left.{IsCopied}
-use Rattle.log_codec.specs.declared.record.AtomicRec.{AtomicRec}
 use Rattle.recover_run.specs.declared.home.Home.{Home as Held}
 use Rattle.session_facts.specs.Machines.Openings.Client.{AreOfTrees, AreOfRecords, AreCounted, KnowsClient}
 use Rattle.route_plan.specs.Heads.{opened_head, settled_head}
 use Rattle.route_plan.specs.Route.{routed}
-use Rattle.cloud_facts.specs.Book.Book.{Book}
 use Rattle.cloud_facts.specs.Book.Growth.{IsLater}
 use Rattle.cloud_facts.specs.Book.Messages.{IsLogMessage}
 use Rattle.cloud_facts.specs.Book.Premises.{IsLeafAtMost}
-use Rattle.cloud_facts.specs.Book.Records.{StandsAt, IsIn}
-use Rattle.cloud_facts.specs.Book.Tally.{Store, at}
 use Rattle.txn_buffer.specs.Noted.{Noted, AreNoted}
 
 -- changes that may be committed: at most 200, one for each tree and key, each a change of a tree

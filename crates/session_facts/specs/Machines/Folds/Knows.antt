@@ -4,21 +4,16 @@ use Rattle.std.specs.List.{AllByRecursion}
 use Rattle.byte_format.specs.Order.{bytes_below, below_bound}
 use Rattle.cloud_facts.specs.Chains.Cuts.{leaf_node}
 use Rattle.cloud_facts.specs.Chains.Links.{newest_node, top_of}
-use Rattle.cloud_trait.specs.Claim.{Claim, Lasts}
+use Rattle.cloud_facts.specs.Words.{PuItem, Leaf, Tree, Claim, Lasts, Store, Node, Leafy, IsIn}
 use Rattle.db_base.specs.Change.{key_of}
 use Rattle.db_base.specs.declared.names.Lock.TheVariants as lock
 use Rattle.leaf_edit.specs.Applied.{applied}
 use Rattle.leaf_edit.specs.Lacked.{lacked}
 use Rattle.tree_phases.specs.declared.folding.Folding.{Folding}
-use Rattle.leaf_view.specs.Leaf.{Leaf}
 use Rattle.leaf_view.specs.Lookup.{holds}
-use Rattle.log_codec.specs.declared.record.PuItem.{PuItem}
-use Rattle.node_codec.specs.Tree.{Tree}
 use Rattle.session_facts.specs.Machines.Runs.Knows.{TookRun}
 use Rattle.split_plan.specs.Part.{LeafPart}
 use Rattle.split_plan.specs.Plan.{IsLeafPart, leaf_bytes, leaf_pieces}
-use Rattle.cloud_facts.specs.Book.Records.{IsIn}
-use Rattle.cloud_facts.specs.Book.Tally.{Node, Leafy, Store}
 use Rattle.cloud_facts.specs.Tellings.Taking.{IsLinked}
 use Rattle.tree_phases.specs.declared.chart.Chart.{Chart}
 use Rattle.tree_phases.specs.Read.{tree_held}

@@ -1,14 +1,11 @@
 -- What is known where the answer of a leaf's get or put leads, and what such a put adds to the audit.
 use Rattle.std.specs.Prelude.{ℕ, List, ◌++◌, map}
-use Rattle.cloud_trait.specs.Ask.{Ask, PutHeld}
-use Rattle.cloud_trait.specs.Claim.{Claim}
-use Rattle.cloud_trait.specs.Machine.{Goes, Ends, Stops}
+use Rattle.cloud_facts.specs.Words.{Claim, Ask, PutHeld, Goes, Ends, Stops, Store}
 use Rattle.db_base.specs.declared.names.ObjName.TheVariants as object
 use Rattle.history.specs.Audited.{Audited, applied_entry}
 use Rattle.tree_phases.specs.declared.folding.Folding.{Folding}
 use Rattle.tree_phases.specs.declared.folding.Left.TheVariants.{Right, Handled}
 use Rattle.tree_phases.specs.Folding.{FoldingStep, applying}
-use Rattle.cloud_facts.specs.Book.Tally.{Store}
 use Rattle.session_facts.specs.Machines.Trees.Leaves.{KnowsRest, IsCome, IsPutting}
 
 abbrev pub KnowsStep : Store → ℕ → Claim → List ℕ → FoldingStep → Type 0

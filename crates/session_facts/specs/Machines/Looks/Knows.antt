@@ -1,10 +1,8 @@
 -- What a look-up beside a cache knows of a cloud, and where its turns lead.
 use Rattle.std.specs.Prelude.{ℕ, ◌≤◌}
 use Rattle.attr_index.specs.Look.{Look}
-use Rattle.cloud_trait.specs.Machine.{Next, Goes, Ends, Stops}
-use Rattle.db_base.specs.declared.trouble.Trouble.{Trouble}
+use Rattle.cloud_facts.specs.Words.{Trouble, Next, Goes, Ends, Stops, Store}
 use Rattle.page_cache.specs.Cache.{Cache}
-use Rattle.cloud_facts.specs.Book.Tally.{Store}
 use Rattle.session_facts.specs.Machines.Walks.Caches.{KnowsCache}
 use Rattle.session_facts.specs.Machines.Walks.Knows.{KnowsWalk}
 

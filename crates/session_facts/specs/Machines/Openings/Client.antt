@@ -1,16 +1,12 @@
 -- What an open client that works on no commit knows.
 use Rattle.std.specs.Prelude.{ℕ, ◌≡◌, ◌≤◌, List}
-use Rattle.cloud_facts.specs.Book.Records.{IsIn, count_of}
-use Rattle.cloud_facts.specs.Book.Tally.{Store}
+use Rattle.cloud_facts.specs.Words.{IsTree, AtomicRec, Head, Claim, Store, IsIn}
+use Rattle.cloud_facts.specs.Book.Records.{count_of}
 use Rattle.cloud_facts.specs.Calls.Acting.{KnowsHome}
 use Rattle.cloud_facts.specs.Homes.Homes.{Part}
 use Rattle.cloud_facts.specs.Pendings.Pending.{IsOwn}
-use Rattle.cloud_trait.specs.Claim.{Claim}
-use Rattle.db_base.specs.Ids.{IsTree}
-use Rattle.head_codec.specs.declared.head.Head.{Head}
 use Rattle.head_codec.specs.declared.lists.Pending.{Pending}
 use Rattle.head_codec.specs.declared.lists.QueueCount.{QueueCount}
-use Rattle.log_codec.specs.declared.record.AtomicRec.{AtomicRec}
 use Rattle.route_plan.specs.Queue.{number_of_queue}
 use Rattle.route_plan.specs.Record.{pending_of}
 

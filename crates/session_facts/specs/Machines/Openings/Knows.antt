@@ -3,17 +3,12 @@ use Rattle.std.specs.Prelude.{ℕ, ◌≡◌, ◌⊎◌, ◌<◌, ◌≤◌, Boo
 use Rattle.std.specs.List.{AllByRecursion}
 use Rattle.cloud_facts.specs.Calls.Acting.{of_option}
 use Rattle.cloud_facts.specs.Calls.Others.{WasSentOn}
-use Rattle.cloud_trait.specs.Claim.{Claim}
-use Rattle.cloud_trait.specs.Machine.{Goes, Ends, Stops}
-use Rattle.db_base.specs.Ids.{IsClient}
+use Rattle.cloud_facts.specs.Words.{IsClient, Trouble, AtomicRec, Head, Claim, Goes, Ends, Stops, Store, IsIn, StandsAt}
 use Rattle.db_base.specs.declared.names.Lock.TheVariants as lock
-use Rattle.db_base.specs.declared.trouble.Trouble.{Trouble}
 use Rattle.db_base.specs.declared.trouble.Trouble.TheVariants as trouble
 use Rattle.head_codec.specs.Head.{next_head}
-use Rattle.head_codec.specs.declared.head.Head.{Head}
 use Rattle.cloud_facts.specs.Homes.Homes.{Opening, Part, Away, Opens}
 use Rattle.cloud_facts.specs.Lefts.Left.{IsCopied}
-use Rattle.log_codec.specs.declared.record.AtomicRec.{AtomicRec}
 use Rattle.recover_run.specs.declared.home.Home.{Home}
 use Rattle.recover_run.specs.declared.items.AtomicItem.{AtomicItem}
 use Rattle.recover_run.specs.declared.stage.RecoverAnswer.{RecoverAnswer}
@@ -28,8 +23,6 @@ use Rattle.recover_run.proofs.Knows.{IsRising}
 use Rattle.session_facts.specs.Machines.Openings.Client.{KnowsClient}
 use Rattle.session_facts.specs.Sessions.Spent.{IsOfOpening}
 use Rattle.cloud_facts.specs.Book.Messages.{IsLogMessage, IsDeleted}
-use Rattle.cloud_facts.specs.Book.Records.{IsIn, StandsAt}
-use Rattle.cloud_facts.specs.Book.Tally.{Store}
 
 -- ---- leases
 

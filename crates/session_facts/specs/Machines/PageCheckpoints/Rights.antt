@@ -2,19 +2,15 @@
 use Rattle.std.specs.Prelude.{ℕ, ◌≡◌, ◌≢◌, ◌≤◌, ◌⊎◌, true, false, List, [], Option, Some, None}
 use Rattle.byte_format.specs.Order.{bytes_below, below_bound}
 use Rattle.cloud_facts.specs.Chains.Links.{newest_node}
-use Rattle.cloud_trait.specs.Claim.{Claim, Lasts}
+use Rattle.cloud_facts.specs.Words.{PuItem, Leaf, Claim, Lasts, Link, Store, Node, Leafy, IsIn}
 use Rattle.db_base.specs.Change.{key_of}
 use Rattle.leaf_edit.specs.Applied.{applied}
 use Rattle.leaf_edit.specs.Lacked.{lacked}
-use Rattle.leaf_view.specs.Leaf.{Leaf, IsLeaf}
+use Rattle.leaf_view.specs.Leaf.{IsLeaf}
 use Rattle.leaf_view.specs.Lookup.{empty_leaf}
-use Rattle.log_codec.specs.declared.record.PuItem.{PuItem}
 use Rattle.page_ckpt.specs.declared.link.Link.{Link as Found}
 use Rattle.run_cursor.specs.Run.{Taken}
 use Rattle.session_facts.specs.Machines.Runs.Knows.{TookRun}
-use Rattle.cloud_facts.specs.Book.Book.{Link}
-use Rattle.cloud_facts.specs.Book.Records.{IsIn}
-use Rattle.cloud_facts.specs.Book.Tally.{Node, Leafy, Store}
 use Rattle.cloud_facts.specs.Tellings.Taking.{IsLinked}
 
 -- ---- a leaf that was read

@@ -4,19 +4,12 @@ use Rattle.std.specs.List.{AllByRecursion}
 use Rattle.byte_format.specs.Format.{greatest}
 use Rattle.cloud_facts.specs.Chains.Cuts.{inner_node}
 use Rattle.cloud_facts.specs.Chains.Links.{link_of, top_of, Ascends, NamesBelow}
-use Rattle.cloud_trait.specs.Claim.{Claim, Lasts}
-use Rattle.cloud_trait.specs.Machine.{Next, Goes, Ends, Stops}
-use Rattle.db_base.specs.Ids.{IsTree}
-use Rattle.log_codec.specs.declared.record.PuItem.{PuItem}
-use Rattle.node_codec.specs.Inner.{Inner}
+use Rattle.cloud_facts.specs.Words.{IsTree, PuItem, Inner, Tree, Claim, Lasts, Next, Goes, Ends, Stops, Link, Store, IsIn}
 use Rattle.node_codec.specs.Node.{raised}
-use Rattle.node_codec.specs.Tree.{Tree, tree_bytes, HasTreeSpelling}
+use Rattle.node_codec.specs.Tree.{tree_bytes, HasTreeSpelling}
 use Rattle.session_facts.specs.Machines.Runs.Knows.{TookRun, MayDelete}
 use Rattle.split_plan.specs.Part.{NodePart}
 use Rattle.split_plan.specs.Plan.{IsNodePart, put_of, entry_of, on_pages, node_bytes, node_pieces, root_pieces, root_above}
-use Rattle.cloud_facts.specs.Book.Book.{Link}
-use Rattle.cloud_facts.specs.Book.Records.{IsIn}
-use Rattle.cloud_facts.specs.Book.Tally.{Store}
 use Rattle.tree_phases.specs.declared.chart.Chart.{Chart}
 use Rattle.tree_phases.specs.declared.kept.KeptNode.{KeptNode}
 use Rattle.tree_phases.specs.declared.link.Link.{Link as Found}

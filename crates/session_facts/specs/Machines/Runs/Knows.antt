@@ -1,16 +1,12 @@
 -- What is known of the messages of a queue, and of a run of them.
 use Rattle.std.specs.Prelude.{ℕ, ◌≡◌, ◌+◌, ◌≤◌, List, slice_get, Some}
-use Rattle.cloud_trait.specs.declared.state.Posted.{Posted}
+use Rattle.cloud_facts.specs.Words.{IsClient, PuItem, Posted, Store, IsIn}
 use Rattle.db_base.specs.Cursor.{number_of}
-use Rattle.db_base.specs.Ids.{IsClient}
 use Rattle.log_codec.specs.Pu.{pu_of}
-use Rattle.log_codec.specs.declared.record.PuItem.{PuItem}
 use Rattle.log_codec.specs.declared.record.PuRec.{PuRec}
 use Rattle.run_cursor.specs.Run.{Taken, IsRun}
 use Rattle.cloud_facts.specs.Book.Messages.{IsMessage}
 use Rattle.cloud_facts.specs.Book.Premises.{IsItemOf}
-use Rattle.cloud_facts.specs.Book.Records.{IsIn}
-use Rattle.cloud_facts.specs.Book.Tally.{Store}
 
 -- an item is the record of a message that was sent
 pub record IsSentItem (posts : List Posted) (x : PuItem) : Type 0 where

@@ -1,16 +1,11 @@
 -- What a scan beside a cache knows of a cloud, and where its turns lead.
 use Rattle.std.specs.Prelude.{ℕ, ◌≡◌, ◌⊎◌, ◌||◌, true, List, [], Option, Some, None}
 use Rattle.cloud_facts.specs.Meanings.Meets.{IsPassed}
-use Rattle.cloud_trait.specs.Machine.{Next, Goes, Ends, Stops}
+use Rattle.cloud_facts.specs.Words.{Trouble, Leaf, Next, Goes, Ends, Stops, Link, Store, IsIn}
 use Rattle.db_base.specs.declared.names.ObjName.TheVariants as object
-use Rattle.db_base.specs.declared.trouble.Trouble.{Trouble}
-use Rattle.leaf_view.specs.Leaf.{Leaf}
 use Rattle.page_cache.specs.Cache.{Cache}
 use Rattle.page_cache.specs.Held.{leaf_at}
 use Rattle.range_scan.specs.Scan.{Scan, scan_object, scan_came_to}
-use Rattle.cloud_facts.specs.Book.Book.{Link}
-use Rattle.cloud_facts.specs.Book.Records.{IsIn}
-use Rattle.cloud_facts.specs.Book.Tally.{Store}
 use Rattle.tree_walk.specs.Walk.{Spot, is_among, came_to}
 use Rattle.session_facts.specs.Machines.Walks.Caches.{KnowsCache, IsSeenLeaf}
 use Rattle.session_facts.specs.Machines.Walks.Knows.{KnowsWalk}

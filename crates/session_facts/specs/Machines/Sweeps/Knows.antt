@@ -1,16 +1,10 @@
 -- What a sweep knows of a cloud at each of its calls.
 use Rattle.std.specs.Prelude.{ℕ, ◌≡◌, ◌≢◌, ◌<◌, ◌≤◌, ◌⊎◌, true, List, [], length, Option, Some, None}
 use Rattle.cloud_facts.specs.Book.Premises.{Removes}
-use Rattle.cloud_facts.specs.Book.Records.{StandsAt}
-use Rattle.cloud_facts.specs.Book.Tally.{Store}
+use Rattle.cloud_facts.specs.Words.{IsTree, Trouble, Answer, Claim, Lasts, Goes, Ends, Stops, Store, StandsAt}
 use Rattle.cloud_facts.specs.Homes.Homes.{Part, Away}
-use Rattle.cloud_trait.specs.declared.answer.Answer.{Answer}
-use Rattle.cloud_trait.specs.Claim.{Claim, Lasts}
 use Rattle.cloud_trait.specs.Listing.{AscendAbove}
-use Rattle.cloud_trait.specs.Machine.{Goes, Ends, Stops}
-use Rattle.db_base.specs.Ids.{IsTree}
 use Rattle.db_base.specs.declared.names.Lock.TheVariants as lock
-use Rattle.db_base.specs.declared.trouble.Trouble.{Trouble}
 use Rattle.db_base.specs.declared.trouble.Trouble.TheVariants as trouble
 use Rattle.orphan_sweep.specs.declared.stage.Stage.{Stage}
 use Rattle.orphan_sweep.specs.declared.stage.Stage.TheVariants.{TakingTree, GettingTree, Reading, Listing, Removing, Releasing, Finished}

@@ -1,12 +1,11 @@
 -- Which pages of a tree something reaches: from its first page and its newest tree object on, along what the newest versions of pages name.
 use Rattle.std.specs.Prelude.{ℕ, ◌≡◌, ◌<◌, ◌⊎◌, List, Some}
-use Rattle.cloud_facts.specs.Book.Records.{IsIn}
-use Rattle.cloud_facts.specs.Book.Tally.{Node, Leafy, Branch, right_of}
+use Rattle.cloud_facts.specs.Words.{Tree, CloudState, newest, Node, Leafy, Branch, IsIn}
+use Rattle.cloud_facts.specs.Book.Tally.{right_of}
 use Rattle.cloud_facts.specs.Decoding.Kinds.{IsNode}
-use Rattle.cloud_trait.specs.State.{CloudState, newest}
 use Rattle.db_base.specs.declared.names.ObjName.TheVariants as object
 use Rattle.node_codec.specs.Node.{Entry}
-use Rattle.node_codec.specs.Tree.{Tree, IsTree}
+use Rattle.node_codec.specs.Tree.{IsTree}
 
 -- the newest version of a page has bytes
 abbrev pub HasBytes : CloudState → ℕ → ℕ → Type 0

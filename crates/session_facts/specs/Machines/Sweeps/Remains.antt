@@ -1,9 +1,7 @@
 -- What remains of a cloud behind a sweep of a tree, by the cloud that it began over.
 use Rattle.std.specs.Prelude.{ℕ, ◌≡◌, ◌≢◌, ◌⊎◌, [], ◌∷◌, ◌++◌, None}
-use Rattle.cloud_trait.specs.State.{CloudState}
-use Rattle.cloud_trait.specs.declared.state.Version.{Version}
+use Rattle.cloud_facts.specs.Words.{QueueName, Version, CloudState}
 use Rattle.db_base.specs.declared.names.ObjName.TheVariants as object
-use Rattle.db_base.specs.declared.names.QueueName.{QueueName}
 use Rattle.session_facts.specs.Machines.Sweeps.Reached.{HasBytes, IsReached}
 
 -- behind the versions of a page that had bytes and that nothing reached is one without bytes

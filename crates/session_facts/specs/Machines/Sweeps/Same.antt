@@ -1,11 +1,9 @@
 -- What is read of trees is as it was.
 use Rattle.std.specs.Prelude.{ℕ, ◌≡◌, List, Option}
-use Rattle.cloud_trait.specs.State.{CloudState}
+use Rattle.cloud_facts.specs.Words.{Entry, Leaf, CloudState}
 use Rattle.db_base.specs.Value.{Value}
-use Rattle.leaf_view.specs.Leaf.{Leaf}
 use Rattle.replay_meaning.specs.Chain.{AreLeaves}
 use Rattle.replay_meaning.specs.Index.{Finds}
-use Rattle.report_types.specs.declared.entry.Entry.{Entry}
 use Rattle.world_audit.specs.Counts.{heads_upto, AreWaiting}
 
 -- of every tree the leaves, what its index leads to for a key, and the two numbers of what is left

@@ -1,18 +1,12 @@
 -- What a checkpoint of a tree of any height knows where it stands, and wherever an answer leads.
 use Rattle.std.specs.Prelude.{ℕ, ◌≡◌, List, [], ◌++◌, map, Option, Some, None, Result, Ok, Err}
-use Rattle.cloud_trait.specs.declared.answer.Answer.{Answer}
+use Rattle.cloud_facts.specs.Words.{IsTree, Trouble, Answer, Claim, Ask, PutHeld, Next, Goes, Ends, Stops, Store}
 use Rattle.cloud_trait.specs.declared.turn.CkptAnswer.{CkptAnswer}
-use Rattle.cloud_trait.specs.Ask.{Ask, PutHeld}
-use Rattle.cloud_trait.specs.Claim.{Claim}
-use Rattle.cloud_trait.specs.Machine.{Next, Goes, Ends, Stops}
-use Rattle.db_base.specs.Ids.{IsTree}
 use Rattle.db_base.specs.declared.names.Lock.TheVariants as lock
 use Rattle.db_base.specs.declared.names.ObjName.TheVariants as object
-use Rattle.db_base.specs.declared.trouble.Trouble.{Trouble}
 use Rattle.db_base.specs.declared.trouble.Trouble.TheVariants as trouble
 use Rattle.history.specs.Audited.{Audited, applied_entry}
 use Rattle.session_facts.specs.Machines.Runs.Knows.{MayDelete}
-use Rattle.cloud_facts.specs.Book.Tally.{Store}
 use Rattle.session_facts.specs.Sessions.Spent.{IsOfFolding}
 use Rattle.tree_ckpt.specs.Making.{Making, MakingLeads}
 use Rattle.tree_ckpt.specs.Leases.{OfTree, HasIds}

@@ -1,16 +1,11 @@
 -- The calls of a tree checkpoint in hand, and that its new pieces are named by the level above once it is done.
 use Rattle.std.specs.Prelude.{ℕ, ◌≡◌, ◌⊎◌, List, [], ◌∷◌, Option, Some}
-use Rattle.cloud_facts.specs.Book.Records.{IsIn}
-use Rattle.cloud_trait.specs.declared.state.Version.{Version}
+use Rattle.cloud_facts.specs.Words.{ObjName, Inner, Tree, Version, CloudState, Deed, calls_of, IsIn}
 use Rattle.cloud_trait.specs.declared.turn.CkptAnswer.{CkptAnswer}
 use Rattle.cloud_trait.specs.Growth.{HasGrown}
-use Rattle.cloud_trait.specs.Machine.{Deed, calls_of}
-use Rattle.cloud_trait.specs.State.{CloudState}
-use Rattle.db_base.specs.declared.names.ObjName.{ObjName}
 use Rattle.db_base.specs.declared.names.ObjName.TheVariants as object
-use Rattle.node_codec.specs.Inner.{Inner}
 use Rattle.node_codec.specs.Node.{Entry}
-use Rattle.node_codec.specs.Tree.{Tree, tree_bytes}
+use Rattle.node_codec.specs.Tree.{tree_bytes}
 use Rattle.session_facts.specs.Machines.TreeCheckpoints.Nesting.{AreNested}
 use Rattle.split_plan.specs.Part.{NodePart}
 use Rattle.split_plan.specs.Plan.{node_bytes}

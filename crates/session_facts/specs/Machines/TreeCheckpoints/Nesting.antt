@@ -2,11 +2,10 @@
 use Rattle.std.specs.Prelude.{ℕ, ◌≡◌, ◌+◌, ◌≤◌, true, length, List, [], ◌∷◌, Option, Some}
 use Rattle.std.specs.List.{AllByRecursion}
 use Rattle.byte_format.specs.Order.{below_bound}
-use Rattle.cloud_trait.specs.declared.answer.Answer.{Answer}
-use Rattle.cloud_trait.specs.Ask.{Ask}
+use Rattle.cloud_facts.specs.Words.{Leaf, Inner, Answer, Ask}
 use Rattle.db_base.specs.declared.names.ObjName.TheVariants as object
-use Rattle.leaf_view.specs.Leaf.{Leaf, Entry}
-use Rattle.node_codec.specs.Inner.{Inner, inner_of}
+use Rattle.leaf_view.specs.Leaf.{Entry}
+use Rattle.node_codec.specs.Inner.{inner_of}
 use Rattle.tree_ckpt.specs.Causes.{Calls, Brings, WasNode}
 use Rattle.tree_ckpt.specs.Working.{HoldsLeaf}
 

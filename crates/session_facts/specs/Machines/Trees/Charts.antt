@@ -1,14 +1,10 @@
 -- What a checkpoint of a tree knows of the objects that it read under the tree's lease, and of the links that it found.
 use Rattle.std.specs.Prelude.{ℕ, ◌≡◌, ◌<◌, ◌≤◌, ◌-◌, ◌⊎◌, List}
 use Rattle.cloud_facts.specs.Chains.Links.{newest_node, top_of}
-use Rattle.cloud_trait.specs.Claim.{Claim, Lasts}
+use Rattle.cloud_facts.specs.Words.{IsClient, IsTree, Inner, Tree, Claim, Lasts, Link, Store, Branch, IsIn}
 use Rattle.db_base.specs.Cursor.{number_of}
-use Rattle.db_base.specs.Ids.{IsClient, IsTree}
-use Rattle.node_codec.specs.Inner.{Inner, IsInner}
-use Rattle.node_codec.specs.Tree.{Tree, HasTreeSpelling, empty_tree}
-use Rattle.cloud_facts.specs.Book.Book.{Link}
-use Rattle.cloud_facts.specs.Book.Records.{IsIn}
-use Rattle.cloud_facts.specs.Book.Tally.{Branch, Store}
+use Rattle.node_codec.specs.Inner.{IsInner}
+use Rattle.node_codec.specs.Tree.{HasTreeSpelling, empty_tree}
 use Rattle.tree_phases.specs.declared.chart.Chart.{Chart}
 use Rattle.tree_phases.specs.declared.kept.KeptNode.{KeptNode}
 use Rattle.tree_phases.specs.declared.link.Link.{Link as Found}

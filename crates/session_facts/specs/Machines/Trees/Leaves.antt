@@ -1,17 +1,12 @@
 -- What a checkpoint knows of a key of its run: on the way down to the key's leaf, while the leaf is read and put, and behind it.
 use Rattle.std.specs.Prelude.{ℕ, ◌≡◌, ◌≢◌, ◌<◌, ◌⊎◌, List, ◌++◌, drop, map}
-use Rattle.cloud_trait.specs.Claim.{Claim}
-use Rattle.db_base.specs.Ids.{IsTree}
+use Rattle.cloud_facts.specs.Words.{IsTree, Leaf, Claim, Link, Store, IsIn}
 use Rattle.db_base.specs.declared.names.Lock.TheVariants as lock
 use Rattle.leaf_edit.specs.Applied.{applied}
 use Rattle.tree_phases.specs.declared.folding.Folding.{Folding}
 use Rattle.tree_phases.specs.Folding.{no_placing}
-use Rattle.leaf_view.specs.Leaf.{Leaf}
 use Rattle.session_facts.specs.Machines.Runs.Knows.{TookRun}
 use Rattle.split_plan.specs.Plan.{entry_of, on_pages, leaf_pieces}
-use Rattle.cloud_facts.specs.Book.Book.{Link}
-use Rattle.cloud_facts.specs.Book.Records.{IsIn}
-use Rattle.cloud_facts.specs.Book.Tally.{Store}
 use Rattle.tree_phases.specs.declared.descent.Descent.{Descent}
 use Rattle.tree_phases.specs.declared.chart.Chart.{Chart}
 use Rattle.tree_phases.specs.declared.kept.KeptNode.{KeptNode}

@@ -2,12 +2,11 @@
 use Rattle.std.specs.Prelude.{ℕ, ◌≡◌, ◌+◌, ◌<◌, ◌≤◌, Bool, false, List, [], ◌∷◌, ◌++◌, length, map, reverse}
 use Rattle.cloud_facts.specs.Chains.Chain.{IsUnlinked}
 use Rattle.cloud_facts.specs.Chains.Cuts.{HaveLanded}
-use Rattle.node_codec.specs.Tree.{Tree, tree_bytes, HasTreeSpelling}
+use Rattle.cloud_facts.specs.Words.{Tree, Link, Node}
+use Rattle.node_codec.specs.Tree.{tree_bytes, HasTreeSpelling}
 use Rattle.split_plan.specs.declared.put_list.PagePut.{PagePut}
 use Rattle.split_plan.specs.Part.{Part}
 use Rattle.split_plan.specs.Plan.{put_of, on_pages}
-use Rattle.cloud_facts.specs.Book.Book.{Link}
-use Rattle.cloud_facts.specs.Book.Tally.{Node}
 
 -- of these pieces the first, for the page itself, and those beside it are still to be put; those behind them landed
 pub record IsPlacing {A X : Type 0} (bytes : Part A X → List ℕ) (page first : ℕ) (pieces : List (Part A X)) (puts : List PagePut) : Type 0 where

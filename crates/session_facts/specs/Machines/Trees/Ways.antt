@@ -1,12 +1,7 @@
 -- Where the way down to the leaf of a key stands.
 use Rattle.std.specs.Prelude.{ℕ, ◌≡◌, ◌<◌, List}
 use Rattle.cloud_facts.specs.Meanings.Meets.{IsAt, IsPassed}
-use Rattle.cloud_trait.specs.Claim.{Claim}
-use Rattle.cloud_trait.specs.Machine.{Next, Goes, Ends, Stops}
-use Rattle.db_base.specs.declared.trouble.Trouble.{Trouble}
-use Rattle.cloud_facts.specs.Book.Book.{Link}
-use Rattle.cloud_facts.specs.Book.Records.{IsIn}
-use Rattle.cloud_facts.specs.Book.Tally.{Store}
+use Rattle.cloud_facts.specs.Words.{Trouble, Claim, Next, Goes, Ends, Stops, Link, Store, IsIn}
 use Rattle.tree_phases.specs.declared.descent.Descent.{Descent}
 use Rattle.session_facts.specs.Machines.Trees.Charts.{KnowsChart}
 

@@ -1,15 +1,13 @@
 -- What a session's cache knows of a cloud: each object that it keeps landed, however old that version is, and so did each version that was served.
 use Rattle.std.specs.Prelude.{ℕ, ◌≡◌, ◌⊎◌, List, Option, Some, None}
 use Rattle.std.specs.List.{AllByRecursion}
-use Rattle.db_base.specs.declared.names.ObjName.{ObjName}
+use Rattle.cloud_facts.specs.Words.{ObjName, Leaf, Tree, Store, Node, Leafy, IsIn}
 use Rattle.db_base.specs.declared.names.ObjName.TheVariants as object
 use Rattle.cloud_facts.specs.Decoding.Kinds.{IsNode}
-use Rattle.leaf_view.specs.Leaf.{Leaf}
 use Rattle.leaf_view.specs.Lookup.{empty_leaf}
-use Rattle.node_codec.specs.Tree.{Tree, IsTree as IsRootSpelled, empty_tree}
+use Rattle.node_codec.specs.Tree.{IsTree as IsRootSpelled, empty_tree}
 use Rattle.page_cache.specs.Cache.{Cache}
-use Rattle.cloud_facts.specs.Book.Records.{IsIn}
-use Rattle.cloud_facts.specs.Book.Tally.{Node, Leafy, Store, version_of}
+use Rattle.cloud_facts.specs.Book.Tally.{version_of}
 
 -- what is kept of an object spells a version of it that landed; a root may be kept as absent, and of the pages page 1 alone
 abbrev pub HasLanded : Store → ObjName → Option (List ℕ) → Type 0

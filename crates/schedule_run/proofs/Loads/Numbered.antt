@@ -1,6 +1,6 @@
 -- A session's client has begun as many transactions as the lines of a load tell.
 use Rattle.std.proofs.Common.{◌≡◌, ◌≢◌, ◌+◌, ◌≤◌, ◌⊎◌, inl, inr, ℕ, List, Option, Some, None, Result, Ok, Err, refl, sym, ap, subst, ◌∙◌, arith}
-use Rattle.client_work.specs.Session.{Acting, Begins, BeginsWith, CommitsNoted, Follows, HasInHand, StepsAt, StepsSession, committed_work, opened_work, stopped_work, value_of, acting_of, in_hand}
+use Rattle.client_work.specs.Session.{Acting, Begins, BeginsWith, CommitsNoted, Follows, HasInHand, StepsAt, StepsSession, committed_work, opened_work, stopped_work, value_of, acting_of}
 use Rattle.client_work.specs.declared.listing.Listing.{Listing}
 use Rattle.client_work.specs.declared.answer.Answer.{Answer}
 use Rattle.client_work.specs.declared.answer.Answer.TheVariants as answer

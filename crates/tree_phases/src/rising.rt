@@ -9,8 +9,8 @@ ghost use Rattle.tree_phases.specs.Rising.{begun, rising_ask, rising_next, next_
 use crate::chart::Chart;
 use crate::link::add_links;
 use crate::node::{node_plan, touched_at};
-use crate::page_plan::PagePlan;
 use crate::pace::Pace;
+use crate::page_plan::PagePlan;
 use crate::placing::Placing;
 use crate::read::tree_view;
 use crate::reserve::version_spent;

@@ -1,5 +1,6 @@
 -- How many calls a look-up has left.
 use Rattle.std.specs.Prelude.{ℕ, zero, suc, ◌+◌, ◌*◌, ◌-◌, ◌^◌, min, length, List, [], ◌∷◌}
+use Rattle.db_base.specs.Limits.{longest_key}
 use Rattle.tree_walk.specs.Walk.{sought}
 use Rattle.tree_walk.specs.Walk.{calls_left as walk_calls_left}
 use Rattle.attr_index.specs.declared.stage.Stage.{Stage}
@@ -14,7 +15,7 @@ rank (suc n) (b ∷ bs) = (min b 255 + 1) * 257 ^ n + rank n bs
 
 -- how many keys of at most 64 bytes have a place above this one, at most
 abbrev pub keys_above : List ℕ → ℕ
-keys_above key = 257 ^ 64 - rank 64 key
+keys_above key = 257 ^ longest_key - rank longest_key key
 
 -- how many walks follow the one in hand at most: in the index one for each key above, and then as many as a list can name
 abbrev pub walks_left : Stage → Look → ℕ

@@ -1,5 +1,6 @@
 -- The entries of one attribute in an index: those that begin with its length and its bytes. They stand together in the order of bytes.
 use Rattle.std.specs.Prelude.{◌≡◌, ℕ, ◌+◌, ◌==◌, nat_lt, length, List, [], ◌∷◌, ◌++◌, Option, Some, None, if◌then◌else◌}
+use Rattle.db_base.specs.Limits.{longest_key}
 use Rattle.leaf_view.specs.Leaf.{Entry}
 
 -- what each entry of an attribute begins with
@@ -32,7 +33,7 @@ behind (p ∷ ps) (b ∷ bs) = if p == b then behind ps bs else None
 
 -- the record's key of an entry of this attribute; none for bytes that are no such entry
 abbrev pub record_key : List ℕ → List ℕ → Option (List ℕ)
-record_key attr bytes = if nat_lt 64 (length bytes) then None else behind (prefix_of attr) bytes
+record_key attr bytes = if nat_lt longest_key (length bytes) then None else behind (prefix_of attr) bytes
 
 abbrev pub joined : Option (List ℕ) → List (List ℕ) → List (List ℕ)
 joined None keys = keys

@@ -2,6 +2,7 @@
 use Rattle.std.specs.Prelude.{ℕ, ◌≡◌, ◌<◌, ◌≤◌, true, List, [], ◌∷◌, ◌++◌, length, Option, Some, None, if◌then◌else◌}
 use Rattle.std.specs.List.{AllByRecursion, Contains}
 use Rattle.byte_format.specs.Order.{bytes_below}
+use Rattle.db_base.specs.Limits.{longest_key}
 use Rattle.db_base.specs.Value.{Value}
 use Rattle.db_base.specs.declared.pair.Pair.{Pair}
 use Rattle.leaf_view.specs.Fits.{Ascend}
@@ -33,7 +34,7 @@ pub record AreRecords (records : List Stored) (value : List ℕ → Option Value
 -- the index has the entry of a record's key, which is short enough to be a key
 pub record HasEntry (q : Query) (index : List ℕ → Option Value) (key : List ℕ) : Type 0 where
   pub some : 0 < length key
-  pub short : length (prefix_of q.attr ++ key) ≤ 64
+  pub short : length (prefix_of q.attr ++ key) ≤ longest_key
   pub entry : Value
   pub there : index (prefix_of q.attr ++ key) ≡ Some entry
 

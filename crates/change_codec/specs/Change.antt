@@ -1,6 +1,7 @@
 -- The format of a change, which log records and heads share.
 use Rattle.std.specs.Prelude.{ℕ, ◌-◌, ◌^◌, ◌==◌, ◌||◌, nat_le, Bool, List, Option, Some, None, if◌then◌else◌}
 use Rattle.std.specs.Int.{w8, w16, w64}
+use Rattle.db_base.specs.Limits.{longest_key, longest_payload}
 use Rattle.db_base.specs.declared.change.Change.{Change}
 use Rattle.db_base.specs.declared.change.Change.TheVariants.{Insert, Update, Delete, Add}
 use Rattle.byte_format.specs.Format.{Format, Reading, number, text, ◌then◌, only_where, seen_as}
@@ -16,7 +17,7 @@ ChangeParts = Option ℕ × Option (List ℕ)
 -- the kind, 1 Insert without attribute, 2 Update, 3 Delete, 4 Add, 5 Insert with one; the key; the payload of an insert or update; the amount; the attribute
 abbrev pub change_fields : Format (ℕ × (List ℕ × (Option (List ℕ) × ChangeParts)))
 change_fields =
-    number w8 1 5 then λ kind. text w8 1 64 then λ key. only_where (has_payload kind) (text w16 0 1024) then λ payload.
+    number w8 1 5 then λ kind. text w8 1 longest_key then λ key. only_where (has_payload kind) (text w16 0 longest_payload) then λ payload.
     only_where (kind == 4) (number w64 0 (2 ^ 64 - 1)) then λ amount. only_where (kind == 5) (text w8 1 32)
 
 abbrev pub change_of : ℕ × (List ℕ × (Option (List ℕ) × ChangeParts)) → Change

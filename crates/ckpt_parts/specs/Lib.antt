@@ -1,6 +1,5 @@
 pub mod Deleting
 pub mod Intakes
 pub mod Leaves
-pub mod Limits
 pub mod Leasing
 pub mod Unless

@@ -1,5 +1,6 @@
 -- A ledger, and the notes for which it stands.
 use Rattle.std.specs.Prelude.{◌≡◌, ℕ, ◌≤◌, ◌<◌, ◌+◌, List, map}
+use Rattle.db_base.specs.Limits.{most_changes, most_received}
 use Rattle.ckpt_policy.specs.declared.counts.Counts.{Counts}
 use Rattle.ckpt_policy.specs.declared.note.Note.{Note}
 use Rattle.ckpt_policy.specs.declared.place.Place.{Place}
@@ -16,13 +17,6 @@ pub record Account : Type 0 where
 -- the numbers that are allowed: a writer's queue is then never longer than what one receive takes
 abbrev pub IsNumber : ℕ → Type 0
 IsNumber k = (1 ≤ k) × (k ≤ 56)
-
--- how many changes a commit has at most, and how many messages a receive takes
-abbrev pub most_changes : ℕ
-most_changes = 200
-
-abbrev pub most_received : ℕ
-most_received = 256
 
 -- a queue in which fewer than k messages wait is, behind one commit more, still shorter than what a receive takes
 abbrev pub StaysShort : ℕ → Type 0

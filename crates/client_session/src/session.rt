@@ -2,6 +2,7 @@ ghost use Rattle.std.specs.Prelude.{◌≡◌, ◌≤◌, ◌<◌, ◌↔◌, []
 ghost use Rattle.std.specs.Option.{option_map, option_copied};
 ghost use Rattle.cloud_trait.specs.Call.{ask_of};
 ghost use Rattle.db_base.specs.Entry.{entry_bytes};
+ghost use Rattle.db_base.specs.Limits.{most_changes, longest_key, last_indexed};
 
 use client_work::answer::{Answer, Begun};
 use client_work::hand::Hand;
@@ -106,7 +107,7 @@ impl<H: Hand> Session<H> {
         ensures ok { OnOk result (HasNoted tree change self.old self.new) }
         ensures err { OnErr result (self.new ≡ self.old) }
         ensures cause { IfErr result (NoteRefused self.old tree change) }
-        ensures few { OnOk result (length self.new.buffer ≤ 200) }
+        ensures few { OnOk result (length self.new.buffer ≤ most_changes) }
     {
         if let Some(rule) = self.work.phase().rule() {
             return Err(Refused::Rule(rule));
@@ -133,8 +134,8 @@ impl<H: Hand> Session<H> {
         ensures cause { IfErr result (PutRefused self.old tree key payload attr) }
         ensures above { (result ≡ Err (Refused.Rule Refusal.BadNumber)) ↔ (8 < tree) }
         ensures long { (result ≡ Err (Refused.Rule Refusal.LongEntry))
-            ↔ ((tree ≤ 8) × (64 < length (entry_bytes attr key))) }
-        ensures few { OnOk result (length self.new.buffer ≤ 200) }
+            ↔ ((tree ≤ last_indexed) × (longest_key < length (entry_bytes attr key))) }
+        ensures few { OnOk result (length self.new.buffer ≤ most_changes) }
     {
         let Some(index) = tree.index() else {
             return Err(Refused::Rule(Refusal::BadNumber));

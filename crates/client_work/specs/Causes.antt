@@ -1,6 +1,7 @@
 -- Why a step of a session came to what it came to: what the contract of the machine at work says of the one answer that the cloud gave, behind the
 -- calls that led the machine to it. It holds whatever the cloud tells.
 use Rattle.std.specs.Prelude.{ℕ, ◌≡◌, ◌≤◌, ◌⊎◌, List, length, Option, Result, Err}
+use Rattle.db_base.specs.Limits.{client_ticks}
 use Rattle.db_base.specs.declared.trouble.CommitAnswer.{CommitAnswer}
 use Rattle.db_base.specs.declared.trouble.Trouble.{Trouble}
 use Rattle.db_base.specs.declared.trouble.Trouble.TheVariants as trouble
@@ -239,7 +240,7 @@ CausesAt who before after (Looking home m, c) (work, d) turn = LookingBy home (�
 CausesAt who before after (Paging home m, c) (work, d) turn = PagingBy home (PagingCauses who before after m) work turn
 CausesAt who before after (Folding home m, c) (work, d) turn = FoldingBy home (FoldingCauses who before after m) work turn
 CausesAt who before after (Closing lease, c) (work, d) turn = CallCauses (Release lease) done_of who before after turn
-CausesAt who before after (Renewing home, c) (work, d) turn = CallCauses (Renew home.lease 600) renewed_of who before after turn
+CausesAt who before after (Renewing home, c) (work, d) turn = CallCauses (Renew home.lease client_ticks) renewed_of who before after turn
 CausesAt who before after (Settling m, c) (work, d) turn = SettlingBy (SettlingCauses who before after m) work turn
 CausesAt who before after (Sweeping m, c) (work, d) turn = SweepingBy (SweepingCauses who before after m) work turn
 CausesAt who before after (Closed, c) (work, d) turn = ⊥

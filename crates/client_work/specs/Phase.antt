@@ -1,5 +1,6 @@
 -- How a session stands, whatever is at work.
 use Rattle.std.specs.Prelude.{ℕ, Ok, Bool, true, false, nat_lt, if◌then◌else◌, List, [], Option, Some, None}
+use Rattle.db_base.specs.Limits.{last_indexed}
 use Rattle.db_base.specs.declared.refusal.Refusal.{Refusal}
 use Rattle.db_base.specs.declared.refusal.Refusal.TheVariants as rule
 use Rattle.page_cache.specs.Cache.{Cache, empty_cache}
@@ -66,7 +67,7 @@ kept_in phase c = c
 
 -- a tree above 8 has no index; of another one the phase decides
 abbrev pub index_bar : ℕ → Option Refusal → Option Refusal
-index_bar tree by = if nat_lt 8 tree then Some rule.BadNumber else by
+index_bar tree by = if nat_lt last_indexed tree then Some rule.BadNumber else by
 
 -- the rule that bars an operation from beginning, where one does
 

@@ -1,5 +1,6 @@
 -- How a session stands.
 use Rattle.std.specs.Prelude.{ℕ, ◌≡◌, ◌≢◌, ◌≤◌, ◌<◌, ◌⊎◌, ◌^◌, ◌++◌, Bool, true, false, List, [], length, map, Option, Some, None, Result, Ok, Err}
+use Rattle.db_base.specs.Limits.{longest_key, most_changes, client_ticks, last_indexed}
 use Rattle.db_base.specs.declared.refusal.Refusal.{Refusal}
 use Rattle.db_base.specs.declared.refusal.Refusal.TheVariants as rule
 use Rattle.head_codec.specs.declared.head.Head.{Head}
@@ -159,21 +160,21 @@ HasDropped old new = (new ≡ record old { buffer = [] }) × (rule_of old.work �
 abbrev pub NoteRefused : Acting → ℕ → Change → Refused → Type 0
 NoteRefused s tree change (refused.Rule r) =
     (rule_of s.work ≡ Some r)
-    ⊎ ((rule_of s.work ≡ None) × (r ≡ rule.TooManyChanges) × (found_in s.buffer tree (key_of change) ≡ None) × (200 ≤ length s.buffer))
+    ⊎ ((rule_of s.work ≡ None) × (r ≡ rule.TooManyChanges) × (found_in s.buffer tree (key_of change) ≡ None) × (most_changes ≤ length s.buffer))
 NoteRefused s tree change refused.Memory = Unit {0}
 
 -- a record may join the index of its tree: the tree has one, and the record's key there is a key
 pub record MayIndex (tree : ℕ) (key attr : List ℕ) : Type 0 where
-  pub has : tree ≤ 8
-  pub short : length (entry_bytes attr key) ≤ 64
+  pub has : tree ≤ last_indexed
+  pub short : length (entry_bytes attr key) ≤ longest_key
 
 -- why a record is not put: it may not join the index, the number of its tree first; or as a change is not noted
 abbrev pub PutRefused : Acting → ℕ → List ℕ → List ℕ → List ℕ → Refused → Type 0
 PutRefused s tree key payload attr (refused.Rule r) =
-    ((r ≡ rule.BadNumber) × (8 < tree))
-    ⊎ (((r ≡ rule.LongEntry) × (tree ≤ 8) × (64 < length (entry_bytes attr key)))
+    ((r ≡ rule.BadNumber) × (last_indexed < tree))
+    ⊎ (((r ≡ rule.LongEntry) × (tree ≤ last_indexed) × (longest_key < length (entry_bytes attr key)))
     ⊎ (MayIndex tree key attr
-    × ((rule_of s.work ≡ Some r) ⊎ ((rule_of s.work ≡ None) × (r ≡ rule.TooManyChanges) × (200 < length (put_in s.buffer tree key payload attr))))))
+    × ((rule_of s.work ≡ Some r) ⊎ ((rule_of s.work ≡ None) × (r ≡ rule.TooManyChanges) × (most_changes < length (put_in s.buffer tree key payload attr))))))
 PutRefused s tree key payload attr refused.Memory = MayIndex tree key attr
 
 -- why changes are not dropped: the rule of what is in hand
@@ -334,9 +335,9 @@ ScansIn start old home new begun = (new.buffer ≡ old.buffer) × ScansOf home s
 
 -- an operation of a tree that is to have an index begins with the home of its client; of a tree above 8 it is refused first
 abbrev pub BeginsIndexed : ℕ → (Home → Acting → Begun → Type 0) → Acting → Acting → Result Begun Refused → Type 0
-BeginsIndexed tree Does old new (Ok begun) = (tree ≤ 8) × BeginsWith Does old new (Ok begun)
+BeginsIndexed tree Does old new (Ok begun) = (tree ≤ last_indexed) × BeginsWith Does old new (Ok begun)
 BeginsIndexed tree Does old new (Err e) =
-    ((e ≡ refused.Rule rule.BadNumber) × (8 < tree) × (new ≡ old)) ⊎ ((tree ≤ 8) × BeginsWith Does old new (Err e))
+    ((e ≡ refused.Rule rule.BadNumber) × (last_indexed < tree) × (new ≡ old)) ⊎ ((tree ≤ last_indexed) × BeginsWith Does old new (Err e))
 
 -- a look-up is in hand, or it stopped at once; want of memory leaves the lease alone
 abbrev pub LooksOf : Home → Query → Cache → Work × Cache → Shown → Begun → Type 0
@@ -544,9 +545,9 @@ StepsClosing lease who before after work turn = ⊥
 -- a home's lease is renewed for 600 ticks: what the call answered, what that comes to, and what it leaves of the lease
 pub record RenewsHome (old new : Home) (who : Caller) (before after : Seen) (result : Result ℕ Trouble) : Type 0 where
   pub answer : Heard
-  pub made : Makes who (Renew old.lease 600) answer before after
+  pub made : Makes who (Renew old.lease client_ticks) answer before after
   pub took : renewed_of answer ≡ result
-  pub lease : RenewsLease who 600 old.lease new.lease answer before after
+  pub lease : RenewsLease who client_ticks old.lease new.lease answer before after
   pub home : new ≡ record old { lease = new.lease }
 
 -- the one step of a renewal: the client stays open, unless memory ran out
@@ -709,7 +710,7 @@ ask_of_work (Folding home m) = Some (making_ask m)
 ask_of_work Closed = None
 ask_of_work (Idle home) = None
 ask_of_work (Closing lease) = Some (Release lease)
-ask_of_work (Renewing home) = Some (Renew home.lease 600)
+ask_of_work (Renewing home) = Some (Renew home.lease client_ticks)
 ask_of_work (Settling m) = Some (settle_ask m)
 ask_of_work (Sweeping m) = Some (sweep_ask m)
 ask_of_work (Broken lease) = None

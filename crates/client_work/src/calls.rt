@@ -2,6 +2,7 @@
 
 ghost use Rattle.std.specs.Prelude.{◌≡◌, ◌≤◌, length, IfOk, IfErr, OnOk, OnErr};
 ghost use Rattle.std.specs.Option.{option_map, option_copied};
+ghost use Rattle.db_base.specs.Limits.{most_changes};
 ghost use Rattle.cloud_trait.specs.Call.{ask_of};
 ghost use Rattle.client_work.specs.BrokenOff.{broken_off};
 ghost use Rattle.client_work.specs.Session.{Acting, HasNoted, HasPut, HasDropped, closed_session, settling_session, sweeping_session, MayIndex, NoteRefused, PutRefused, AbortRefused, Begins, StepsSession, ask_of_work, committing_of, opens_of, applying_of, value_of, items_of, open_client};
@@ -49,7 +50,7 @@ pub trait SessionCalls: Drop {
         ensures ok { OnOk result (HasNoted tree change (acting self.old) (acting self.new)) }
         ensures err { OnErr result (acting self.new ≡ acting self.old) }
         ensures cause { IfErr result (NoteRefused (acting self.old) tree change) }
-        ensures few { OnOk result (length (acting self.new).buffer ≤ 200) };
+        ensures few { OnOk result (length (acting self.new).buffer ≤ most_changes) };
 
     /// Notes the insert of a record with an attribute, and that of its entry into the index of its tree. A refusal changes nothing.
     fn put(
@@ -64,7 +65,7 @@ pub trait SessionCalls: Drop {
         ensures indexed { OnOk result (MayIndex tree key attr) }
         ensures err { OnErr result (acting self.new ≡ acting self.old) }
         ensures cause { IfErr result (PutRefused (acting self.old) tree key payload attr) }
-        ensures few { OnOk result (length (acting self.new).buffer ≤ 200) };
+        ensures few { OnOk result (length (acting self.new).buffer ≤ most_changes) };
 
     /// Drops the changes of an open client. A refusal changes nothing.
     fn abort(&mut self) -> Result<(), Refused>

@@ -1,6 +1,7 @@
 -- The command as its parser knows it: six subcommands, of which one is required.
 use Rattle.std.specs.Prelude.{ℕ, ◌&&◌, nat_le, true, List, Option, Some, None, codes, option_and_then, if◌then◌else◌}
 use Rattle.std.specs.Str.{bytes_eq}
+use Rattle.db_base.specs.Limits.{last_client}
 use Rattle.clap.specs.Words.{App, Row, Rule, new_app, new_rule, with_rule, with_subcommand, first_of}
 use Rattle.words.specs.Word.{number_of}
 use Rattle.command_words.specs.declared.shape.Shape.{Shape as CommandShape}
@@ -55,7 +56,7 @@ number_in id rows = option_and_then number_of (first_of id rows)
 abbrev pub shell_in : Option ℕ → Option (List ℕ) → Option CommandShape
 shell_in None dir = None
 shell_in (Some client) None = None
-shell_in (Some client) (Some dir) = if nat_le 1 client && nat_le client 64 then Some (Shell client dir) else None
+shell_in (Some client) (Some dir) = if nat_le 1 client && nat_le client last_client then Some (Shell client dir) else None
 
 abbrev pub settling_in : Option (List ℕ) → Option CommandShape
 settling_in None = None

@@ -1,6 +1,7 @@
 -- The shapes of a command line: the command, and then its values.
 use Rattle.std.specs.Prelude.{◌≡◌, ℕ, Bool, true, ◌&&◌, not, nat_eq, nat_le, if◌then◌else◌, List, [], ◌∷◌, Option, Some, None, Result, Ok, Err, codes, ⊤}
 use Rattle.std.specs.Str.{bytes_eq}
+use Rattle.db_base.specs.Limits.{last_client}
 use Rattle.words.specs.Word.{number_of}
 use Rattle.command_words.specs.declared.read.TheConstants.{MAX_COUNT}
 use Rattle.command_words.specs.declared.shape.Shape.{Shape}
@@ -22,7 +23,7 @@ generated (Some number) (Some count) = if nat_le count MAX_COUNT then Some (Gen 
 -- a shell of a client, 1 to 64, over a folder
 abbrev pub shell_over : Option ℕ → List ℕ → Option Shape
 shell_over None dir = None
-shell_over (Some client) dir = if nat_le 1 client && (nat_le client 64 && is_folder dir) then Some (Shell client dir) else None
+shell_over (Some client) dir = if nat_le 1 client && (nat_le client last_client && is_folder dir) then Some (Shell client dir) else None
 
 -- a settling of a folder
 abbrev pub settling_of : List ℕ → Option Shape

@@ -1,6 +1,7 @@
 -- What the bytes in hand spell, and what a commit keeps while it writes.
 use Rattle.std.specs.Prelude.{ℕ, ◌≡◌, ◌≤◌, length, slice_get, List, Option, Some, None}
 use Rattle.std.specs.List.{AllByRecursion}
+use Rattle.db_base.specs.Limits.{most_changes}
 use Rattle.head_codec.specs.Counters.{AreCounters}
 use Rattle.head_codec.specs.Spelling.{IsPhase, head_of}
 use Rattle.head_codec.specs.declared.head.Head.{Head}
@@ -49,7 +50,7 @@ pub record IsBefore (b : Before) : Type 0 where
 -- what a commit keeps: a change is there, what it sends and puts has spellings, and the bytes in hand are those of the call that they are for
 pub record KeepsSound (w : Writing) : Type 0 where
   pub some : 1 ≤ length w.changes
-  pub few : length w.records ≤ 200
+  pub few : length w.records ≤ most_changes
   pub before : IsBefore w.before
   pub placed : AllByRecursion HasPlace w.records
   pub sound : IsSound w

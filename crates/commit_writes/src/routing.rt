@@ -2,6 +2,7 @@
 
 ghost use Rattle.std.specs.Prelude.{◌≡◌, ◌⊎◌, ◌≤◌, length, true, false, IfOk, IfErr, OnOk};
 ghost use Rattle.std.specs.List.{AllByRecursion};
+ghost use Rattle.db_base.specs.Limits.{most_changes};
 ghost use Rattle.log_codec.specs.Atomic.{HasPlace};
 ghost use Rattle.route_plan.specs.Route.{routed, AllFit, PassesGreatest};
 ghost use Rattle.commit_writes.specs.Writing.{routed_of, passes};
@@ -28,7 +29,7 @@ pub(crate) fn records_of(
     ensures ok { IfOk result (λ records. records.items ≡ routed_of home.now changes.now leaves.now) }
     ensures fits { OnOk result (passes (routed_of home.now changes.now leaves.now) ≡ false) }
     ensures length { length (routed_of home.now changes.now leaves.now) ≡ length changes.now }
-    ensures few { length (routed_of home.now changes.now leaves.now) ≤ 200 }
+    ensures few { length (routed_of home.now changes.now leaves.now) ≤ most_changes }
     ensures some { 1 ≤ length (routed_of home.now changes.now leaves.now) }
     ensures placed { AllByRecursion HasPlace (routed_of home.now changes.now leaves.now) }
     ensures err { IfErr result (λ e. (e ≡ Trouble.Memory) ⊎ ((e ≡ Trouble.Exhausted Counter.Number)

@@ -2,6 +2,7 @@
 
 ghost use Rattle.std.specs.Prelude.{◌≡◌, ◌≤◌, length, Some, IfOk, IfSome, OnOk};
 ghost use Rattle.std.specs.List.{AllByRecursion};
+ghost use Rattle.db_base.specs.Limits.{most_changes};
 ghost use Rattle.head_codec.specs.Spelling.{HasSpelling, WasOpen, head_bytes, head_of};
 ghost use Rattle.log_codec.specs.Atomic.{HasPlace, atomic_bytes, atomic_of};
 ghost use Rattle.log_codec.specs.Pu.{pu_bytes, pu_of};
@@ -65,7 +66,7 @@ pub(crate) fn open_home(
     records: &[AtomicRec],
 ) -> Result<Blob, AllocError>
     requires some { 1 ≤ length records.now }
-    requires few { length records.now ≤ 200 }
+    requires few { length records.now ≤ most_changes }
     requires placed { AllByRecursion HasPlace records.now }
     ensures home { OnOk result (home.new ≡ opened_home home.old records.now) }
     ensures kept { home.new ≡ with_head home.old home.new.head }

@@ -1,6 +1,7 @@
 ghost use Rattle.std.specs.Prelude.{◌≡◌, ◌≢◌, ◌≤◌, ◌<◌, ◌+◌, ◌*◌, List, length, not, IfErr};
 ghost use Rattle.std.specs.Option.{option_copied};
 ghost use Rattle.std.specs.List.{AllByRecursion};
+ghost use Rattle.db_base.specs.Limits.{most_changes};
 ghost use Rattle.log_codec.specs.Atomic.{HasPlace};
 ghost use Rattle.cloud_trait.specs.Call.{ask_of};
 ghost use Rattle.cloud_trait.specs.Machine.{LeadsBy, Took};
@@ -236,7 +237,7 @@ impl CommitWrites {
     /// Begins to write the records.
     fn begin(&mut self, alloc: Global, records: Vec<AtomicRec>) -> Turn<CommitAnswer>
         requires some { 1 ≤ length records.items }
-        requires few { length records.items ≤ 200 }
+        requires few { length records.items ≤ most_changes }
         requires placed { AllByRecursion HasPlace records.items }
         ensures begun { TurnsBy (λ w n. begun w records.items ≡ n) self.old self.new result }
         ensures calls { result ≡ Turn.More → calls_left self.new ≡ calls_for records.items self.old.ids }

@@ -1,6 +1,7 @@
 -- The keys of an index: a record's attribute before its key.
 use Rattle.std.specs.Prelude.{◌≡◌, ℕ, ◌≤◌, ◌<◌, List, [], ◌∷◌, ◌++◌, length, None}
 use Rattle.db_base.specs.Key.{IsAttr}
+use Rattle.db_base.specs.Limits.{longest_key}
 use Rattle.db_base.specs.declared.change.Change.{Change}
 use Rattle.db_base.specs.declared.change.Change.TheVariants.{Insert}
 
@@ -12,7 +13,7 @@ entry_bytes attr key = length attr ∷ (attr ++ key)
 pub record IsEntry (bytes attr key : List ℕ) : Type 0 where
   pub is_attr : IsAttr attr
   pub some : 0 < length key
-  pub short : length bytes ≤ 64
+  pub short : length bytes ≤ longest_key
   pub spelled : bytes ≡ entry_bytes attr key
 
 -- the insert by which a record joins the index: the entry alone

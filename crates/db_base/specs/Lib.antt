@@ -3,6 +3,7 @@ pub mod Cursor
 pub mod Entry
 pub mod Ids
 pub mod Key
+pub mod Limits
 pub mod Refusal
 pub mod Value
 pub mod Wish

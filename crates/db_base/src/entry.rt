@@ -2,6 +2,7 @@
 
 ghost use Rattle.std.specs.Prelude.{◌≡◌, ℕ, ◌<◌, ◌↔◌, ◌⊎◌, List, length, IfOk, IfErr, IfSome, MatchOption};
 ghost use Rattle.db_base.specs.Entry.{entry_bytes, index_insert as index_insert_of, IsEntry};
+ghost use Rattle.db_base.specs.Limits.{longest_key};
 
 use crate::attr::{Attr, MAX_ATTR};
 use crate::change::Change;
@@ -12,7 +13,7 @@ use std::alloc::Global;
 /// The index's key for a record: its attribute's length in one byte, its attribute, its key. LongEntry exactly where these have more than 64 bytes.
 pub fn entry_key(alloc: Global, attr: &Attr, key: &Key) -> Result<Key, Refused>
     ensures ok { IfOk result (λ entry. IsEntry entry attr.now key.now) }
-    ensures long { (result ≡ Err (Refused.Rule Refusal.LongEntry)) ↔ (64 < length (entry_bytes attr.now key.now)) }
+    ensures long { (result ≡ Err (Refused.Rule Refusal.LongEntry)) ↔ (longest_key < length (entry_bytes attr.now key.now)) }
     ensures only { IfErr result (λ e. (e ≡ Refused.Rule Refusal.LongEntry) ⊎ (e ≡ Refused.Memory)) }
 {
     let attr = attr.as_slice();
@@ -32,7 +33,7 @@ pub fn entry_key(alloc: Global, attr: &Attr, key: &Key) -> Result<Key, Refused>
 pub fn index_insert(alloc: Global, attr: &Attr, key: &Key) -> Result<Change, Refused>
     ensures ok { IfOk result (λ change. change ≡ index_insert_of attr.now key.now) }
     ensures entry { IfOk result (λ _. IsEntry (entry_bytes attr.now key.now) attr.now key.now) }
-    ensures long { (result ≡ Err (Refused.Rule Refusal.LongEntry)) ↔ (64 < length (entry_bytes attr.now key.now)) }
+    ensures long { (result ≡ Err (Refused.Rule Refusal.LongEntry)) ↔ (longest_key < length (entry_bytes attr.now key.now)) }
     ensures only { IfErr result (λ e. (e ≡ Refused.Rule Refusal.LongEntry) ⊎ (e ≡ Refused.Memory)) }
 {
     let key = match entry_key(alloc, attr, key) {

@@ -1,5 +1,6 @@
 ghost use Rattle.std.specs.Prelude.{◌≡◌, ℕ, ◌<◌, ◌≤◌, ◌↔◌, List, length, IfOk, IfErr, ◌⊎◌};
 ghost use Rattle.db_base.specs.Key.{IsKey, IsPayload};
+ghost use Rattle.db_base.specs.Limits.{longest_key, longest_payload};
 
 use crate::refusal::{Refusal, Refused};
 use crate::value::sum;
@@ -40,7 +41,7 @@ impl Key {
     pub fn new(alloc: Global, bytes: &[u8]) -> Result<Key, Refused>
         ensures ok { IfOk result (λ k. (k ≡ bytes.now) × IsKey bytes.now) }
         ensures empty { (result ≡ Err (Refused.Rule Refusal.EmptyKey)) ↔ (length bytes.now ≡ 0) }
-        ensures long { (result ≡ Err (Refused.Rule Refusal.LongKey)) ↔ (64 < length bytes.now) }
+        ensures long { (result ≡ Err (Refused.Rule Refusal.LongKey)) ↔ (longest_key < length bytes.now) }
         ensures only { IfErr result (λ e. (e ≡ Refused.Rule Refusal.EmptyKey) ⊎ ((e ≡ Refused.Rule Refusal.LongKey) ⊎ (e ≡ Refused.Memory))) }
     {
         if bytes.is_empty() {
@@ -110,7 +111,7 @@ impl Payload {
     /// A copy of the bytes as a payload.
     pub fn new(alloc: Global, bytes: &[u8]) -> Result<Payload, Refused>
         ensures ok { IfOk result (λ p. (p ≡ bytes.now) × IsPayload bytes.now) }
-        ensures long { (result ≡ Err (Refused.Rule Refusal.LongPayload)) ↔ (1024 < length bytes.now) }
+        ensures long { (result ≡ Err (Refused.Rule Refusal.LongPayload)) ↔ (longest_payload < length bytes.now) }
         ensures only { IfErr result (λ e. (e ≡ Refused.Rule Refusal.LongPayload) ⊎ (e ≡ Refused.Memory)) }
     {
         if bytes.len() > MAX_PAYLOAD {

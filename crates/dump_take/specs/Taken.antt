@@ -1,6 +1,7 @@
 -- What is taken: the contents of all trees of a quiet database, or why not.
 use Rattle.std.specs.Prelude.{ℕ, ◌≡◌, ◌<◌, ◌+◌, ◌⊎◌, List, [], ◌∷◌, length, Some, None, Result, Ok, Err}
 use Rattle.db_base.specs.Ids.{IsTree}
+use Rattle.db_base.specs.Limits.{last_tree}
 use Rattle.db_base.specs.declared.trouble.Trouble.{Trouble}
 use Rattle.cloud_trait.specs.Seen.{Seen, Showing}
 use Rattle.cloud_trait.specs.State.{CloudState}
@@ -24,7 +25,7 @@ AreContents s tree (records ∷ contents) = Walked s tree 0 records × AreConten
 -- trees are the dump of the contents of all 16
 pub record AreDumped (s : CloudState) (trees : List DumpedTree) : Type 0 where
   pub contents : List (List Stored)
-  pub all : length contents ≡ 16
+  pub all : length contents ≡ last_tree
   pub are : AreContents s 1 contents
   pub is : trees ≡ dump_of contents
 

@@ -1,5 +1,6 @@
 -- How many keys there are, and how many stand above one.
 use Rattle.std.specs.Prelude.{ℕ, zero, suc, ◌+◌, ◌-◌, ◌*◌, List, [], ◌∷◌, Option, Some, None}
+use Rattle.db_base.specs.Limits.{longest_key}
 use Rattle.report_types.specs.declared.stored.Stored.{Stored}
 
 -- how many keys have at most so many bytes: none has no byte, and behind each first byte a key may end or go on
@@ -15,5 +16,5 @@ keys_above (suc len) (b ∷ key) = (255 - b) * (keys_within len + 1) + keys_abov
 
 -- how many keys stand behind a record, or behind none
 abbrev pub room : Option Stored → ℕ
-room None = keys_within 64
-room (Some s) = keys_above 64 s.key
+room None = keys_within longest_key
+room (Some s) = keys_above longest_key s.key

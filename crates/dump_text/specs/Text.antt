@@ -2,7 +2,7 @@
 use Rattle.std.specs.Prelude.{ℕ, ◌≡◌, ◌<◌, ◌^◌, List, [], ◌∷◌, ◌++◌, length, codes, IfSome}
 use Rattle.std.specs.Fmt.{decimal}
 use Rattle.std.specs.List.{AllByRecursion, flat_map}
-use Rattle.words.specs.Word.{hexadecimal, AreBytes}
+use Rattle.words.specs.Word.{hexadecimal, AreBytes, space, newline}
 use Rattle.words.specs.Line.{text_of, last_words}
 use Rattle.report_types.specs.declared.stored.Stored.{Stored}
 use Rattle.dump_text.specs.declared.dump.DumpedTree.{DumpedTree}
@@ -10,7 +10,7 @@ use Rattle.dump_text.specs.Dump.{IsDumpable}
 
 -- words as a line
 abbrev pub line_of : List (List ℕ) → List ℕ
-line_of words = text_of 32 words ++ 10 ∷ []
+line_of words = text_of space words ++ newline ∷ []
 
 -- the line of a tree: its number, and how many records it has
 abbrev pub tree_line : ℕ → ℕ → List ℕ

@@ -1,7 +1,7 @@
 //! The lines of a dump, one by one.
 
 ghost use Rattle.std.specs.Prelude.{◌≡◌, ◌∷◌, ◌++◌, IfSome, IfNone};
-ghost use Rattle.words.specs.Word.{Reads};
+ghost use Rattle.words.specs.Word.{Reads, newline};
 ghost use Rattle.dump_text.specs.BadLine.{line_feeds};
 ghost use Rattle.dump_text.specs.Words.{tree_of_words, stored_of_words};
 
@@ -12,7 +12,7 @@ use words::parts::Parts;
 
 /// The text before the first line feed, and the text behind it; none where there is no line feed.
 pub(crate) fn split_line(text: &[u8]) -> Option<(&[u8], &[u8])>
-    ensures some { IfSome result (λ x. text.now ≡ x.0.now ++ 10 ∷ x.1.now) }
+    ensures some { IfSome result (λ x. text.now ≡ x.0.now ++ newline ∷ x.1.now) }
     ensures first { IfSome result (λ x. line_feeds x.0.now ≡ 0) }
     ensures none { IfNone result (line_feeds text.now ≡ 0) }
 {

@@ -6,7 +6,7 @@ use Rattle.std.specs.String.{string_bytes}
 use Rattle.db_base.specs.Wish.{ArePositions}
 use Rattle.db_base.specs.declared.wish.Wish.{Wish}
 use Rattle.db_base.specs.declared.wish.Wish.TheVariants.{Plain, Fail, Lost, Hide, Old, Give}
-use Rattle.words.specs.Word.{hexadecimal, AreBytes, IsNumber, AreNumbers}
+use Rattle.words.specs.Word.{hexadecimal, AreBytes, IsNumber, AreNumbers, space, newline}
 use Rattle.words.specs.Line.{text_of, last_words}
 use Rattle.event_text.specs.declared.event.Event.{Event}
 use Rattle.event_text.specs.declared.keyword.Keyword.{Keyword}
@@ -57,7 +57,7 @@ event_words Settle = codes "settle" ∷ []
 
 -- words as a line
 abbrev pub line_of : List (List ℕ) → List ℕ
-line_of words = text_of 32 words ++ 10 ∷ []
+line_of words = text_of space words ++ newline ∷ []
 
 -- what was written is the line of these words, unless it failed
 abbrev pub Spells : {Z E : Type 0} → Result (String Z) E → List (List ℕ) → Type 0

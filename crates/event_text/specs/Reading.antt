@@ -1,6 +1,7 @@
 -- How a line is read, word by word.
 use Rattle.std.specs.Prelude.{ℕ, ◌&&◌, nat_le, Bool, true, false, List, [], ◌∷◌, length, codes, Option, Some, None, option_map, if◌then◌else◌}
 use Rattle.std.specs.Str.{bytes_eq}
+use Rattle.db_base.specs.Limits.{most_positions}
 use Rattle.db_base.specs.declared.wish.Wish.{Wish}
 use Rattle.db_base.specs.declared.wish.Wish.TheVariants.{Plain, Fail, Lost, Hide, Old, Give}
 use Rattle.words.specs.Line.{◌>>=◌, word_at, number_at, bytes_at, end_at, last_of, numbers_of, one_of, two_of, place_of, record_of, sum_of}
@@ -22,7 +23,7 @@ alone x words = do
 unfoldable pub positions_of : List (List ℕ) → Option (List ℕ)
 positions_of words = do
   positions ← numbers_of words
-  if nat_le 1 (length positions) && nat_le (length positions) 256 then Some positions else None
+  if nat_le 1 (length positions) && nat_le (length positions) most_positions then Some positions else None
 
 -- the wish that a word begins
 unfoldable pub wish_by : List ℕ → List (List ℕ) → Option Wish

@@ -1,5 +1,5 @@
 ghost use Rattle.std.specs.Prelude.{◌≡◌, ◌≢◌, ℕ, List, [], ◌∷◌, ◌++◌, IfOk, IfSome, IfNone};
-ghost use Rattle.words.specs.Word.{Reads, IsReadTo};
+ghost use Rattle.words.specs.Word.{Reads, IsReadTo, newline};
 ghost use Rattle.words.specs.Line.{parts_of};
 ghost use Rattle.event_text.specs.Reading.{alone, positions_of, wish_by, wish_of, done_of, insert_of, put_of, policy_of, event_by, session_event, event_behind, event_of_words, shell_event_of_words};
 ghost use Rattle.event_text.specs.Event.{IsEvent, IsShellLine};
@@ -17,8 +17,8 @@ use words::parts::Parts;
 
 /// The text before the line feed that ends a line.
 fn text_before_line_feed(line: &[u8]) -> Option<&[u8]>
-    ensures some { IfSome result (λ text. line.now ≡ text.now ++ 10 ∷ []) }
-    ensures none { IfNone result ((text : List ℕ) → line.now ≢ text ++ 10 ∷ []) }
+    ensures some { IfSome result (λ text. line.now ≡ text.now ++ newline ∷ []) }
+    ensures none { IfNone result ((text : List ℕ) → line.now ≢ text ++ newline ∷ []) }
 {
     line.strip_suffix(b"\n")
 }

@@ -1,5 +1,5 @@
 -- The names of files and folders: a kind, and behind it the numbers as bytes in lower-case hexadecimal.
-use Rattle.std.specs.Prelude.{ℕ, ◌≡◌, ◌≢◌, ◌<◌, ◌^◌, Result, Err, List, [], ◌∷◌, ◌++◌, Option, Some, None}
+use Rattle.std.specs.Prelude.{ℕ, ◌≡◌, ◌≢◌, ◌<◌, ◌^◌, Result, Err, List, [], ◌∷◌, ◌++◌, Option, Some, None, codes}
 use Rattle.std.specs.Int.{w64, to_be_bytes}
 use Rattle.db_base.specs.Ids.{IsClient, IsTree, IsPage}
 use Rattle.db_base.specs.declared.names.Lock.{Lock}
@@ -19,15 +19,15 @@ place_bytes tree page = tree ∷ to_be_bytes w64 page
 abbrev pub place_text : ℕ → ℕ → List ℕ
 place_text tree page = hexadecimal (place_bytes tree page)
 
--- `head-`, `tree-` and `page-`
+-- the kinds of objects
 abbrev pub head_kind : List ℕ
-head_kind = 104 ∷ 101 ∷ 97 ∷ 100 ∷ 45 ∷ []
+head_kind = codes "head-"
 
 abbrev pub tree_kind : List ℕ
-tree_kind = 116 ∷ 114 ∷ 101 ∷ 101 ∷ 45 ∷ []
+tree_kind = codes "tree-"
 
 abbrev pub page_kind : List ℕ
-page_kind = 112 ∷ 97 ∷ 103 ∷ 101 ∷ 45 ∷ []
+page_kind = codes "page-"
 
 -- the file of an object
 abbrev pub file_text : ObjName → List ℕ
@@ -35,12 +35,12 @@ file_text (object.Head client) = head_kind ++ hexadecimal (client ∷ [])
 file_text (object.Tree tree) = tree_kind ++ hexadecimal (tree ∷ [])
 file_text (object.Page tree page) = page_kind ++ place_text tree page
 
--- `atomic-` and `updates-`
+-- the kinds of queues
 abbrev pub atomic_kind : List ℕ
-atomic_kind = 97 ∷ 116 ∷ 111 ∷ 109 ∷ 105 ∷ 99 ∷ 45 ∷ []
+atomic_kind = codes "atomic-"
 
 abbrev pub updates_kind : List ℕ
-updates_kind = 117 ∷ 112 ∷ 100 ∷ 97 ∷ 116 ∷ 101 ∷ 115 ∷ 45 ∷ []
+updates_kind = codes "updates-"
 
 -- the folder of a queue; a tree's own queue stands under page 0
 abbrev pub folder_text : QueueName → List ℕ

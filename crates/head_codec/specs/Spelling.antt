@@ -3,6 +3,7 @@ use Rattle.std.specs.Prelude.{ℕ, ◌≡◌, ◌≤◌, ◌<◌, ◌-◌, ◌^�
 use Rattle.std.specs.List.{AllByRecursion}
 use Rattle.std.specs.Int.{w8}
 use Rattle.db_base.specs.Ids.{IsTree}
+use Rattle.db_base.specs.Limits.{most_changes}
 use Rattle.byte_format.specs.Format.{Format, Reading, number, ◌then◌, behind, only_where, seen_as}
 use Rattle.byte_format.specs.Whole.{offset}
 use Rattle.change_codec.specs.Number.{u64_from}
@@ -25,7 +26,7 @@ fields_of_phase (Open count) = (1, Some count)
 
 -- the byte 00, or 01 and a count
 abbrev pub phase_fields : Format (ℕ × Option ℕ)
-phase_fields = number w8 0 1 then λ kind. only_where (kind == 1) (number w8 1 200)
+phase_fields = number w8 0 1 then λ kind. only_where (kind == 1) (number w8 1 most_changes)
 
 abbrev pub phase : Format Phase
 phase = seen_as phase_of_fields fields_of_phase phase_fields
@@ -68,7 +69,7 @@ head_offset = offset head
 -- the phase of a commit counts 1 to 200 records
 abbrev pub IsPhase : Phase → Type 0
 IsPhase Settled = Unit {0}
-IsPhase (Open count) = (1 ≤ count) × (count ≤ 200)
+IsPhase (Open count) = (1 ≤ count) × (count ≤ most_changes)
 
 -- all that a head needs to have a spelling, beside what its types say (`FitsTypes`)
 pub record HasSpelling (h : Head) : Type 0 where

@@ -1,6 +1,7 @@
 -- The table of what is done, after a run.
 use Rattle.std.specs.Prelude.{◌≡◌, ℕ, zero, suc, ◌-◌, ◌==◌, nat_lt, max, List, [], ◌∷◌, ◌++◌, filter, if◌then◌else◌}
 use Rattle.db_base.specs.Ids.{IsClient}
+use Rattle.db_base.specs.Limits.{last_client}
 use Rattle.leaf_view.specs.declared.done.Done.{Done}
 use Rattle.leaf_view.specs.Lookup.{number_of}
 use Rattle.log_codec.specs.declared.record.PuItem.{PuItem}
@@ -30,12 +31,12 @@ with_done queue client (suc n) ds = record { queue = queue; client = client; num
 -- the queue's entries by client, for the last so many of the 64 clients
 unfoldable pub own_entries : ℕ → (ℕ → ℕ) → ℕ → List Done
 own_entries queue number zero = []
-own_entries queue number (suc left) = with_done queue (64 - left) (number (64 - left)) (own_entries queue number left)
+own_entries queue number (suc left) = with_done queue (last_client - left) (number (last_client - left)) (own_entries queue number left)
 
 -- the entries of lower queues, the queue's own raised by the run, the entries of higher queues
 abbrev pub raised : List Done → ℕ → List PuItem → List Done
 raised ds queue run =
-    filter (λ d. nat_lt d.queue queue) ds ++ (own_entries queue (raised_number ds queue run) 64 ++ filter (λ d. nat_lt queue d.queue) ds)
+    filter (λ d. nat_lt d.queue queue) ds ++ (own_entries queue (raised_number ds queue run) last_client ++ filter (λ d. nat_lt queue d.queue) ds)
 
 -- of the run's queue each client's number is raised to its greatest in the run, and the numbers of other queues stay
 abbrev pub RaisesNumbers : List Done → List Done → ℕ → List PuItem → Type 0

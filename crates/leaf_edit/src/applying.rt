@@ -1,6 +1,7 @@
 //! A run applied to a leaf.
 
 ghost use Rattle.std.specs.Prelude.{◌≡◌, ◌<◌, ◌≤◌, ◌^◌, ◌↔◌, IfOk};
+ghost use Rattle.byte_format.specs.Format.{greatest};
 ghost use Rattle.log_codec.specs.Order.{IsOrdered};
 ghost use Rattle.leaf_edit.specs.Applied.{applied, applied_length};
 ghost use Rattle.leaf_edit.specs.Raised.{RaisesNumbers};
@@ -26,8 +27,8 @@ pub fn apply(
     requires { IsOrdered run.now }
     ensures ok { IfOk result (λ new. new ≡ applied leaf.now queue run.now) }
     ensures done { IfOk result (λ new. RaisesNumbers leaf.now.done new.done queue run.now) }
-    ensures exhausted { (result ≡ Err EditFault.Exhausted) ↔ (leaf.now.version ≡ 18446744073709551615) }
-    ensures long { 2 ^ 64 ≤ applied_length leaf.now queue run.now → leaf.now.version < 18446744073709551615 → result ≡ Err EditFault.Memory }
+    ensures exhausted { (result ≡ Err EditFault.Exhausted) ↔ (leaf.now.version ≡ greatest) }
+    ensures long { 2 ^ 64 ≤ applied_length leaf.now queue run.now → leaf.now.version < greatest → result ≡ Err EditFault.Memory }
 {
     if leaf.version() == u64::MAX {
         return Err(EditFault::Exhausted);

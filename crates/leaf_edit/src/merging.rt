@@ -4,6 +4,7 @@ ghost use Rattle.std.specs.Prelude.{◌≡◌, ◌+◌, ◌<◌, ◌≤◌, ◌�
 ghost use Rattle.std.specs.Option.{option_map};
 ghost use Rattle.std.specs.Vec.{vec_capacity};
 ghost use Rattle.byte_format.specs.Adds.{Adds};
+ghost use Rattle.byte_format.specs.Format.{greatest};
 ghost use Rattle.leaf_view.specs.Leaf.{IsLeaf};
 ghost use Rattle.log_codec.specs.Order.{IsOrdered};
 ghost use Rattle.leaf_view.specs.Shown.{valued};
@@ -177,7 +178,7 @@ pub(crate) fn spell<'a>(
     changes: Changes<'a>,
 )
     requires ordered { IsOrdered run.now }
-    requires version { leaf.now.version < 18446744073709551615 }
+    requires version { leaf.now.version < greatest }
     requires empty { out.old.items ≡ [] }
     requires room { applied_length leaf.now queue run.now ≤ vec_capacity out.old }
     requires changes { changes ≡ lacked leaf.now queue run.now }
@@ -203,7 +204,7 @@ pub fn merge(
     requires empty { out.old.items ≡ [] }
     requires room { applied_length leaf.now queue run.now ≤ vec_capacity out.old }
     ensures spelled { OnOk result (IsLeaf out.new.items (applied leaf.now queue run.now)) }
-    ensures spent { IsErr result ↔ (leaf.now.version ≡ 18446744073709551615) }
+    ensures spent { IsErr result ↔ (leaf.now.version ≡ greatest) }
     ensures unchanged { OnErr result (out.new ≡ out.old) }
     ensures room { vec_capacity out.new ≡ vec_capacity out.old }
 {

@@ -5,6 +5,7 @@ ghost use Rattle.std.specs.Option.{option_copied};
 ghost use Rattle.std.specs.Vec.{vec_capacity};
 ghost use Rattle.byte_format.specs.Adds.{Adds};
 ghost use Rattle.db_base.specs.Key.{IsAttr};
+ghost use Rattle.db_base.specs.Limits.{longest_key};
 ghost use Rattle.leaf_view.specs.Shown.{shown};
 ghost use Rattle.leaf_edit.specs.Merging.{IsSized};
 ghost use Rattle.leaf_edit.specs.Sizes.{attr_size, entry_size, fields_size, high_size};
@@ -32,7 +33,7 @@ pub(crate) fn right_of(leaf: &LeafView<'_>) -> u64
 
 /// How many bytes the high key has, with its length before it, where there is one.
 fn high_len(high: Option<&[u8]>) -> usize
-    requires { IfSome (option_copied high) (λ key. length key ≤ 64) }
+    requires { IfSome (option_copied high) (λ key. length key ≤ longest_key) }
     ensures { result ≡ high_size (option_copied high.entry) }
 {
     match high {
@@ -43,8 +44,8 @@ fn high_len(high: Option<&[u8]>) -> usize
 
 /// How many bytes stand before the lists of a leaf.
 pub(crate) fn fields_len(low: &[u8], high: Option<&[u8]>) -> usize
-    requires low { length low.now ≤ 64 }
-    requires high { IfSome (option_copied high) (λ key. length key ≤ 64) }
+    requires low { length low.now ≤ longest_key }
+    requires high { IfSome (option_copied high) (λ key. length key ≤ longest_key) }
     ensures size { result ≡ fields_size low.now (option_copied high.entry) }
     ensures short { result ≤ 148 }
 {
@@ -53,7 +54,7 @@ pub(crate) fn fields_len(low: &[u8], high: Option<&[u8]>) -> usize
 
 /// Appends the high key, where there is one.
 fn add_high(out: &mut Vec<u8>, high: Option<&[u8]>)
-    requires short { IfSome (option_copied high) (λ key. length key ≤ 64) }
+    requires short { IfSome (option_copied high) (λ key. length key ≤ longest_key) }
     requires room { vec_len out.old + high_size (option_copied high) ≤ vec_capacity out.old }
     ensures { Adds out.old out.new (high_bytes (option_copied high.entry)) }
 {
@@ -71,8 +72,8 @@ pub(crate) fn add_fields(
     right: u64,
     high: Option<&[u8]>,
 )
-    requires low { length low.now ≤ 64 }
-    requires high { IfSome (option_copied high) (λ key. length key ≤ 64) }
+    requires low { length low.now ≤ longest_key }
+    requires high { IfSome (option_copied high) (λ key. length key ≤ longest_key) }
     requires room { vec_len out.old + fields_size low.now (option_copied high) ≤ vec_capacity out.old }
     ensures { Adds out.old out.new (fields_bytes version low.now right (option_copied high.entry)) }
 {
@@ -150,8 +151,8 @@ pub(crate) fn try_add_fields(
     right: u64,
     high: Option<&[u8]>,
 ) -> Result<(), AllocError>
-    requires low { length low.now ≤ 64 }
-    requires high { IfSome (option_copied high) (λ key. length key ≤ 64) }
+    requires low { length low.now ≤ longest_key }
+    requires high { IfSome (option_copied high) (λ key. length key ≤ longest_key) }
     ensures { OnOk result (out.new.items ≡ out.old.items ++ fields_bytes version low.now right (option_copied high.entry)) }
 {
     out.reserve(fields_len(low, high))?;

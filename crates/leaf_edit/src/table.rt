@@ -3,6 +3,7 @@
 ghost use Rattle.std.specs.Prelude.{◌≡◌, ℕ, ◌+◌, ◌≤◌, [], ◌∷◌, filter, max, slice_index, vec_len};
 ghost use Rattle.std.specs.Vec.{vec_capacity};
 ghost use Rattle.db_base.specs.Ids.{IsClient};
+ghost use Rattle.db_base.specs.Limits.{last_client};
 ghost use Rattle.byte_format.specs.Adds.{Adds};
 ghost use Rattle.leaf_edit.specs.Raised.{AreRaised, number_in, own_entries, raised, with_done};
 ghost use Rattle.leaf_edit.specs.Sizes.{dones_size, IsSize};
@@ -76,7 +77,7 @@ fn add_if_done(out: &mut Vec<u8>, queue: u64, client: ClientId, number: u64)
 
 /// So many bytes, and those of the queue's entries by client.
 fn own_len(total: usize, queue: u64, numbers: &Numbers) -> Option<usize>
-    ensures { IsSize result (total + dones_size (own_entries queue (λ client. slice_index numbers.now client) 64)) }
+    ensures { IsSize result (total + dones_size (own_entries queue (λ client. slice_index numbers.now client) last_client)) }
 {
     let mut sum = total;
     let mut left: u64 = 64;
@@ -91,8 +92,8 @@ fn own_len(total: usize, queue: u64, numbers: &Numbers) -> Option<usize>
 
 /// Appends the queue's entries by client.
 fn add_own(out: &mut Vec<u8>, queue: u64, numbers: &Numbers)
-    requires { vec_len out.old + dones_size (own_entries queue (λ client. slice_index numbers.now client) 64) ≤ vec_capacity out.old }
-    ensures { Adds out.old out.new (dones_before (own_entries queue (λ client. slice_index numbers.now client) 64) []) }
+    requires { vec_len out.old + dones_size (own_entries queue (λ client. slice_index numbers.now client) last_client) ≤ vec_capacity out.old }
+    ensures { Adds out.old out.new (dones_before (own_entries queue (λ client. slice_index numbers.now client) last_client) []) }
 {
     let mut left: u64 = 64;
     while left > 0 {

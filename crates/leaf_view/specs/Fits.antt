@@ -3,6 +3,7 @@ use Rattle.std.specs.Prelude.{◌≡◌, ℕ, ◌≤◌, Bool, not, ◌&&◌, �
 use Rattle.std.specs.List.{AllByRecursion}
 use Rattle.db_base.specs.Key.{IsKey, IsPayload, IsAttr}
 use Rattle.db_base.specs.Ids.{IsClient}
+use Rattle.db_base.specs.Limits.{longest_key}
 use Rattle.byte_format.specs.Format.{greatest}
 use Rattle.byte_format.specs.Order.{bytes_below, below_bound}
 use Rattle.leaf_view.specs.declared.done.Done.{Done}
@@ -54,7 +55,7 @@ IsFormat format records = (format ≡ 2) ⊎ ((format ≡ 1) × AreBare records)
 -- all of a leaf but its version, which is 0 in the page that was never put
 pub record IsWellFormed (l : Leaf) : Type 0 where
   pub format : IsFormat l.format l.records
-  pub low : length l.low ≤ 64
+  pub low : length l.low ≤ longest_key
   pub right : l.right ≤ greatest
   pub high : IsHigh l.low l.right l.high
   pub done : AllByRecursion IsDone l.done

@@ -5,6 +5,7 @@ use Rattle.byte_format.specs.Format.{Format, greatest, number, text, ruled, ◌t
 use Rattle.byte_format.specs.Whole.{IsSpelling}
 use Rattle.byte_format.specs.Order.{bytes_below, below_bound}
 use Rattle.byte_format.specs.HighKey.{high_key}
+use Rattle.db_base.specs.Limits.{longest_key, longest_payload, last_client}
 use Rattle.db_base.specs.Value.{Value}
 use Rattle.leaf_view.specs.declared.done.Done.{Done}
 
@@ -46,7 +47,7 @@ unfoldable pub leaf_head : Format Head
 leaf_head = seen_as head_of head_parts (behind 76 (
     number w8 1 2 then λ format.
     number w64 1 greatest then λ version.
-    text w8 0 64 then λ low.
+    text w8 0 longest_key then λ low.
     number w64 0 greatest then λ right.
     high_key low right))
 
@@ -67,7 +68,7 @@ abbrev pub done_parts : Done → ℕ × (ℕ × ℕ)
 done_parts d = (d.queue, (d.client, d.number))
 
 abbrev pub done_from : ℕ → (ℕ → ℕ) → Format Done
-done_from queue_from client_from = seen_as done_of done_parts (number w64 queue_from greatest then λ queue. number w8 (client_from queue) 64 then λ client. number w64 1 greatest)
+done_from queue_from client_from = seen_as done_of done_parts (number w64 queue_from greatest then λ queue. number w8 (client_from queue) last_client then λ client. number w64 1 greatest)
 
 -- queue, client, number, ascending by queue and then client
 unfoldable pub done_item : Option Done → Format Done
@@ -103,7 +104,7 @@ key_stands low high before key = not (bytes_below key low) && below_bound key hi
 
 -- key, payload, attribute
 unfoldable pub record_item : ℕ → List ℕ → Option (List ℕ) → Option Entry → Format Entry
-record_item format low high before = seen_as entry_of entry_parts (ruled (key_stands low high before) (text w8 1 64) then λ key. text w16 0 1024 then λ payload. attribute format)
+record_item format low high before = seen_as entry_of entry_parts (ruled (key_stands low high before) (text w8 1 longest_key) then λ key. text w16 0 longest_payload then λ payload. attribute format)
 
 -- ---- the whole
 
@@ -126,4 +127,4 @@ unfoldable pub plain_done : Format Done
 plain_done = done_from 0 (λ _. 1)
 
 unfoldable pub plain_entry : ℕ → Format Entry
-plain_entry format = seen_as entry_of entry_parts (text w8 1 64 then λ key. text w16 0 1024 then λ payload. attribute format)
+plain_entry format = seen_as entry_of entry_parts (text w8 1 longest_key then λ key. text w16 0 longest_payload then λ payload. attribute format)

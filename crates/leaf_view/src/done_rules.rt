@@ -3,6 +3,7 @@
 ghost use Rattle.std.specs.Prelude.{◌≡◌, ◌≤◌, ℕ, [], ◌∷◌, Option, MatchOption};
 ghost use Rattle.byte_format.specs.Plain.{items_in, IsListed};
 ghost use Rattle.std.specs.Option.{option_copied};
+ghost use Rattle.db_base.specs.Limits.{last_client};
 ghost use Rattle.byte_format.specs.Gives.{Gives};
 ghost use Rattle.leaf_view.specs.Leaf.{done_item, least_queue, least_client, plain_done};
 
@@ -36,7 +37,7 @@ impl<'a> Rules<'a> for DoneRules {
 
 fn client_of(n: u8) -> ClientId
     requires some { 1 ≤ n }
-    requires most { n ≤ 64 }
+    requires most { n ≤ last_client }
     ensures { result ≡ n }
 {
     ClientId::new(u64::from(n)).unwrap()

@@ -1,5 +1,6 @@
 -- What a load runs: the events of a dump, in order.
 use Rattle.std.specs.Prelude.{ℕ, zero, suc, ◌+◌, ◌/◌, ◌==◌, if◌then◌else◌, List, [], ◌∷◌, ◌++◌, map, length, take, drop}
+use Rattle.db_base.specs.Limits.{most_changes}
 use Rattle.dump_text.specs.declared.dump.DumpedTree.{DumpedTree}
 use Rattle.event_text.specs.declared.event.Event.{Event}
 use Rattle.event_text.specs.declared.event.Event.TheVariants.{Open, Close, Renew, Insert, Commit, Tree, Settle}
@@ -22,11 +23,11 @@ records_of (t ∷ trees) = placed_in t.tree t.records ++ records_of trees
 -- so many parts of 200 records each, the last of which may have fewer
 abbrev pub parts : ℕ → List Placed → List (List Placed)
 parts zero records = []
-parts (suc n) records = take 200 records ∷ parts n (drop 200 records)
+parts (suc n) records = take most_changes records ∷ parts n (drop most_changes records)
 
 -- how many transactions so many records take: a 200th of them, rounded up
 abbrev pub transactions : ℕ → ℕ
-transactions count = (count + 199) / 200
+transactions count = (count + 199) / most_changes
 
 -- the records of each transaction
 abbrev pub parts_of : List DumpedTree → List (List Placed)

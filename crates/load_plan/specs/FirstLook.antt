@@ -4,6 +4,7 @@ use Rattle.cloud_trait.specs.Bench.{IsShown}
 use Rattle.cloud_trait.specs.Seen.{Seen}
 use Rattle.cloud_trait.specs.State.{CloudState, newest}
 use Rattle.cloud_trait.specs.Weather.{Rose}
+use Rattle.db_base.specs.Limits.{last_client, last_tree}
 use Rattle.db_base.specs.declared.names.ObjName.{ObjName}
 use Rattle.db_base.specs.declared.names.ObjName.TheVariants.{Head, Tree, Page}
 use Rattle.reply_text.specs.Name.{object_word}
@@ -21,7 +22,7 @@ tree_names (tree ∷ trees) = Tree tree ∷ Page tree 1 ∷ tree_names trees
 
 -- the heads of all clients, and then for each tree its object and its page 1
 abbrev pub first_names : List ObjName
-first_names = map Head (numbers 1 64) ++ tree_names (numbers 1 16)
+first_names = map Head (numbers 1 last_client) ++ tree_names (numbers 1 last_tree)
 
 -- an object has these bytes, or none, by the state that is told, and by what the cloud tells that looks show
 pub record ShowsOf (seen : Seen) (name : ObjName) (bytes : Option (List ℕ)) : Type 0 where

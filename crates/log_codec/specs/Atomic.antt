@@ -2,6 +2,7 @@
 use Rattle.std.specs.Prelude.{ℕ, ◌≤◌, ◌<◌, ◌^◌, Bool, List, Option}
 use Rattle.std.specs.Int.{w8}
 use Rattle.db_base.specs.Ids.{IsClient, IsTree}
+use Rattle.db_base.specs.Limits.{last_client, most_changes}
 use Rattle.db_base.specs.declared.change.Change.{Change}
 use Rattle.byte_format.specs.Format.{Format, Reading, number, ◌then◌, behind, seen_as}
 use Rattle.byte_format.specs.Whole.{offset}
@@ -21,14 +22,14 @@ Update = ℕ × (ℕ × (ℕ × Change))
 
 -- the index from 1 on, the count from the index to 200
 abbrev pub position : Format Position
-position = number w8 1 255 then λ index. number w8 index 200
+position = number w8 1 255 then λ index. number w8 index most_changes
 
 abbrev pub update : Format Update
 update = number w8 1 16 then λ tree. u64_from 0 then λ page. u64_from 1 then λ number. change
 
 -- the bytes 41 and 01 of hexadecimal; client, epoch, transaction, index, count, tree, page, number, change
 abbrev pub atomic_fields : Format (ℕ × (ℕ × (ℕ × (Position × Update))))
-atomic_fields = behind 65 (behind 1 (number w8 1 64 then λ client. u64_from 1 then λ epoch. u64_from 1 then λ txn. position then λ position. update))
+atomic_fields = behind 65 (behind 1 (number w8 1 last_client then λ client. u64_from 1 then λ epoch. u64_from 1 then λ txn. position then λ position. update))
 
 abbrev pub atomic_of_fields : ℕ × (ℕ × (ℕ × (Position × Update))) → AtomicRec
 atomic_of_fields (client, (epoch, (txn, ((index, count), (tree, (page, (number, change))))))) =
@@ -66,7 +67,7 @@ atomic_offset = offset atomic_record
 pub record IsPosition (index count : ℕ) : Type 0 where
   pub some : 1 ≤ index
   pub within : index ≤ count
-  pub few : count ≤ 200
+  pub few : count ≤ most_changes
 
 -- what a record needs to have a spelling
 pub record IsAtomicRecord (r : AtomicRec) : Type 0 where

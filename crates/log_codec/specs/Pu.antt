@@ -2,6 +2,7 @@
 use Rattle.std.specs.Prelude.{ℕ, ◌≤◌, Bool, List, Option}
 use Rattle.std.specs.Int.{w8}
 use Rattle.db_base.specs.Ids.{IsClient}
+use Rattle.db_base.specs.Limits.{last_client}
 use Rattle.db_base.specs.declared.change.Change.{Change}
 use Rattle.byte_format.specs.Format.{Format, Reading, number, ◌then◌, behind, seen_as}
 use Rattle.byte_format.specs.Whole.{offset}
@@ -13,7 +14,7 @@ use Rattle.log_codec.specs.declared.record.PuRec.{PuRec}
 
 -- the bytes 50 and 01 of hexadecimal; client, epoch, transaction, number, change
 abbrev pub pu_fields : Format (ℕ × (ℕ × (ℕ × (ℕ × Change))))
-pu_fields = behind 80 (behind 1 (number w8 1 64 then λ client. u64_from 1 then λ epoch. u64_from 1 then λ txn. u64_from 1 then λ number. change))
+pu_fields = behind 80 (behind 1 (number w8 1 last_client then λ client. u64_from 1 then λ epoch. u64_from 1 then λ txn. u64_from 1 then λ number. change))
 
 abbrev pub pu_of_fields : ℕ × (ℕ × (ℕ × (ℕ × Change))) → PuRec
 pu_of_fields (client, (epoch, (txn, (number, change)))) = record { client = client; epoch = epoch; txn = txn; number = number; change = change }

@@ -2,6 +2,7 @@
 use Rattle.std.specs.Prelude.{ℕ, false, IsTrue, List, [], ◌∷◌, Option, Some, None, Result, Ok, take, drop, unwrap_or}
 use Rattle.std.specs.Result.{result_ok}
 use Rattle.std.specs.Int.{w8, w64}
+use Rattle.db_base.specs.Limits.{longest_key}
 use Rattle.byte_format.specs.Format.{greatest, ◌>>=◌, Format, number, text, behind, ◌then◌, list_of, seen_as}
 use Rattle.byte_format.specs.Whole.{IsSpelling, whole}
 use Rattle.byte_format.specs.HighKey.{high_key}
@@ -29,7 +30,7 @@ fields_of_inner n = (n.version, (n.level, (n.low, (n.right, (n.high, n.entries))
 
 -- the fields in their order, behind the mark 49 and the format's number 01
 abbrev pub inner_fields : Format InnerFields
-inner_fields = behind 0x49 (behind 1 (number w64 1 greatest then λ version. number w8 1 255 then λ level. text w8 0 64 then λ low.
+inner_fields = behind 0x49 (behind 1 (number w64 1 greatest then λ version. number w8 1 255 then λ level. text w8 0 longest_key then λ low.
     number w64 0 greatest then λ right. high_key low right then λ high. list_of false (entry low high greatest) None))
 
 abbrev pub inner_format : Format Inner

@@ -4,6 +4,7 @@ use Rattle.std.specs.List.{AllByRecursion}
 use Rattle.std.specs.Int.{w8, w64, to_be_bytes}
 use Rattle.byte_format.specs.Format.{Format, greatest, number, text, ruled, ◌then◌}
 use Rattle.db_base.specs.Cursor.{number_of}
+use Rattle.db_base.specs.Limits.{longest_key, last_client}
 use Rattle.byte_format.specs.Order.{bytes_below, bytes_same, below_bound}
 
 -- a low key, and the page that holds the keys from it on
@@ -12,7 +13,7 @@ Entry = List ℕ × ℕ
 
 -- an entry as it stands in the bytes
 abbrev pub plain_entry : Format Entry
-plain_entry = text w8 0 64 then λ _. number w64 1 greatest
+plain_entry = text w8 0 longest_key then λ _. number w64 1 greatest
 
 -- the first low key is that of the node, and low keys ascend strictly
 abbrev pub follows : List ℕ → Option Entry → List ℕ → Bool
@@ -25,7 +26,7 @@ may_stand low high before key = if follows low before key then below_bound key h
 
 -- an entry by its rules, in a node from low on and below high whose children are numbered up to last
 abbrev pub entry : List ℕ → Option (List ℕ) → ℕ → Option Entry → Format Entry
-entry low high last before = ruled (may_stand low high before) (text w8 0 64) then λ _. ruled (λ page. nat_le page last) (number w64 1 greatest)
+entry low high last before = ruled (may_stand low high before) (text w8 0 longest_key) then λ _. ruled (λ page. nat_le page last) (number w64 1 greatest)
 
 -- the later one, where there is one
 abbrev pub later_of : Option Entry → Option Entry → Option Entry
@@ -39,7 +40,7 @@ child_of key (e ∷ es) = later_of (if bytes_below key e.0 then None else Some e
 
 -- a client from `least` on and its number
 abbrev pub number_from : ℕ → Format (ℕ × ℕ)
-number_from least = number w8 least 64 then λ _. number w64 1 greatest
+number_from least = number w8 least last_client then λ _. number w64 1 greatest
 
 -- as they stand in the bytes
 abbrev pub plain_number : Format (ℕ × ℕ)
@@ -61,7 +62,7 @@ pairs_from number c (suc count) = if number c == 0 then pairs_from number (suc c
 
 -- each client with its number where that is above 0, ascending by client
 unfoldable pub pairs_of : (ℕ → ℕ) → List (ℕ × ℕ)
-pairs_of number = pairs_from number 1 64
+pairs_of number = pairs_from number 1 last_client
 
 -- for each client the greater of two numbers
 unfoldable pub raised : List (ℕ × ℕ) → List (ℕ × ℕ) → List (ℕ × ℕ)

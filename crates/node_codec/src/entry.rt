@@ -1,6 +1,7 @@
 //! An entry of a root or an inner node.
 
 ghost use Rattle.std.specs.Prelude.{◌≡◌, ◌≤◌, length, [], None, Some, IsSome, MatchOption, if◌then◌else◌};
+ghost use Rattle.db_base.specs.Limits.{longest_key};
 ghost use Rattle.byte_format.specs.Gives.{Gives};
 ghost use Rattle.byte_format.specs.Order.{bytes_below};
 ghost use Rattle.node_codec.specs.Node.{plain_entry, later_of, child_of};
@@ -24,12 +25,12 @@ impl<'a> Model for Entry<'a> {
 
     ghost view = { λ e. (e.low.now, e.page) };
 
-    ghost invariant = { λ e. length e.low.now ≤ 64 };
+    ghost invariant = { λ e. length e.low.now ≤ longest_key };
 }
 
 impl<'a> Entry<'a> {
     pub(crate) fn new(low: &'a [u8], page: PageId) -> Entry<'a>
-        requires { length low.now ≤ 64 }
+        requires { length low.now ≤ longest_key }
         ensures { result ≡ (low.now, page) }
     {
         Entry { low, page }
@@ -37,7 +38,7 @@ impl<'a> Entry<'a> {
 
     pub(crate) fn low(&self) -> &'a [u8]
         ensures value { result.now ≡ self.now.0 }
-        ensures short { length result.now ≤ 64 }
+        ensures short { length result.now ≤ longest_key }
     {
         self.low
     }

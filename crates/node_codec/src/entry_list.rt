@@ -1,6 +1,7 @@
 //! Lists of entries that are counted, added to and cut.
 
 ghost use Rattle.std.specs.Prelude.{◌≡◌, ◌≤◌, ◌<◌, ◌++◌, ◌∷◌, [], take, drop, length, unwrap_or, IfOk, OnOk};
+ghost use Rattle.db_base.specs.Limits.{longest_key};
 ghost use Rattle.node_codec.specs.Node.{plain_entry, entry_bytes, with_entry};
 ghost use Rattle.node_codec.specs.Plain.{IsWholeList};
 ghost use Rattle.node_codec.specs.Lists.{entries_in, spelled};
@@ -25,7 +26,7 @@ pub(crate) fn count_entries(entries: &[u8]) -> usize
 
 /// Appends an entry to a list that goes on.
 pub(crate) fn push_entry(out: &mut Vec<u8>, low: &[u8], page: u64) -> Result<(), AllocError>
-    requires { length low.now ≤ 64 }
+    requires { length low.now ≤ longest_key }
     ensures { OnOk result (out.new.items ≡ out.old.items ++ entry_bytes low.now page) }
 {
     try_add_u8(out, 1)?;
@@ -36,7 +37,7 @@ pub(crate) fn push_entry(out: &mut Vec<u8>, low: &[u8], page: u64) -> Result<(),
 
 /// Appends an entry, and the rest of the list behind it.
 fn push_last(out: &mut Vec<u8>, low: &[u8], page: u64, rest: &[u8]) -> Result<(), AllocError>
-    requires { length low.now ≤ 64 }
+    requires { length low.now ≤ longest_key }
     ensures { OnOk result (out.new.items ≡ (out.old.items ++ entry_bytes low.now page) ++ rest.now) }
 {
     push_entry(out, low, page)?;
@@ -49,7 +50,7 @@ fn push_last(out: &mut Vec<u8>, low: &[u8], page: u64, rest: &[u8]) -> Result<()
 fn add_one_more(out: &mut Vec<u8>, entries: &[u8], low: &[u8], page: u64) -> Result<(), AllocError>
     requires empty { out.old.items ≡ [] }
     requires listed { IsWholeList plain_entry entries.now }
-    requires short { length low.now ≤ 64 }
+    requires short { length low.now ≤ longest_key }
     ensures { OnOk result (out.new.items ≡ spelled (with_entry low.now page (entries_in entries.now))) }
 {
     let mut rest = entries;
@@ -78,7 +79,7 @@ pub(crate) fn with_one_more(
     page: u64,
 ) -> Result<Vec<u8>, AllocError>
     requires listed { IsWholeList plain_entry entries.now }
-    requires short { length low.now ≤ 64 }
+    requires short { length low.now ≤ longest_key }
     ensures { IfOk result (λ v. v.items ≡ spelled (with_entry low.now page (entries_in entries.now))) }
 {
     let mut out = Vec::new(alloc);

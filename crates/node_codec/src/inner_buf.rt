@@ -3,6 +3,7 @@
 ghost use Rattle.std.specs.Prelude.{◌≡◌, ◌+◌, ◌<◌, ◌≤◌, ◌++◌, ◌↔◌, [], None, true, false, length, IfOk, IfErr, IfSome, OnOk, OnErr, IsErrOf};
 ghost use Rattle.std.specs.Option.{option_copied};
 ghost use Rattle.std.specs.Int.{w8};
+ghost use Rattle.db_base.specs.Limits.{longest_key};
 ghost use Rattle.byte_format.specs.Format.{option_spelling, text};
 ghost use Rattle.byte_format.specs.Order.{bytes_below, below_bound};
 ghost use Rattle.node_codec.specs.Inner.{Inner, IsInner, HasInnerSpelling, inner_in, AreInnerParts, left_node, right_node, with_link};
@@ -67,8 +68,8 @@ fn copied(alloc: Global, bytes: Option<&[u8]>) -> Result<Option<Blob>, AllocErro
 
 /// Appends a high key, where there is one.
 fn push_high(out: &mut Vec<u8>, high: &Option<Blob>) -> Result<(), AllocError>
-    requires { IfSome high.now (λ h. length h ≤ 64) }
-    ensures { OnOk result (out.new.items ≡ out.old.items ++ option_spelling (text w8 1 64) high.now) }
+    requires { IfSome high.now (λ h. length h ≤ longest_key) }
+    ensures { OnOk result (out.new.items ≡ out.old.items ++ option_spelling (text w8 1 longest_key) high.now) }
 {
     match high {
         None => Ok(()),
@@ -118,7 +119,7 @@ impl InnerBuf {
 
     /// Adds an entry, unless its low key is there. Refused for memory alone, and then nothing changes.
     pub fn add(&mut self, low: &[u8], page: PageId) -> Result<(), EditFault>
-        requires short { length low.now ≤ 64 }
+        requires short { length low.now ≤ longest_key }
         requires from_low { bytes_below low.now self.old.low ≡ false }
         requires to_high { below_bound low.now self.old.high ≡ true }
         ensures ok { OnOk result (self.new ≡ with_link self.old low.now page) }

@@ -1,6 +1,7 @@
 //! A root under edit.
 
 ghost use Rattle.std.specs.Prelude.{◌≡◌, ◌+◌, ◌<◌, ◌≤◌, ◌↔◌, [], length, IfOk, IfErr, OnOk, OnErr, IsErrOf};
+ghost use Rattle.db_base.specs.Limits.{longest_key};
 ghost use Rattle.node_codec.specs.Tree.{Tree, IsTree, HasTreeSpelling, with_child, with_raised, raised_root};
 ghost use Rattle.node_codec.specs.Inner.{node_of_root};
 
@@ -95,7 +96,7 @@ impl TreeBuf {
 
     /// Adds an entry, unless its low key is there or the page was not reserved. Refused for memory alone, and then nothing changes.
     pub fn add(&mut self, low: &[u8], page: PageId) -> Result<(), EditFault>
-        requires { length low.now ≤ 64 }
+        requires { length low.now ≤ longest_key }
         ensures ok { OnOk result (self.new ≡ with_child low.now page self.old) }
         ensures err { OnErr result (self.new ≡ self.old) }
         ensures memory { IfErr result (λ e. e ≡ EditFault.Memory) }

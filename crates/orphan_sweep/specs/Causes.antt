@@ -1,5 +1,6 @@
 -- Why a sweep stops: each trouble is shown by the answer of the step that brings it.
 use Rattle.std.specs.Prelude.{ℕ, ◌≡◌, ◌≢◌, true, false, List, Option, Some, None, Ok, Err, ◌⊎◌}
+use Rattle.db_base.specs.Limits.{tree_ticks}
 use Rattle.db_base.specs.declared.names.ObjName.TheVariants as object
 use Rattle.db_base.specs.declared.names.Place.{Place}
 use Rattle.db_base.specs.declared.names.Place.TheVariants as place
@@ -21,7 +22,6 @@ use Rattle.orphan_sweep.specs.declared.stage.Stage.TheVariants.{GettingTree, Rea
 use Rattle.orphan_sweep.specs.declared.swept.Swept.{Swept}
 use Rattle.orphan_sweep.specs.Pages.{leaf_held, root_held, top_spot, paths_of, onward}
 use Rattle.orphan_sweep.specs.Sweeping.{Sweeping, sweep_ask, is_among}
-use Rattle.ckpt_parts.specs.Limits.{tree_ticks}
 
 -- a call whose failure stops the sweep: each but the release
 abbrev pub Matters : Ask → Type 0

@@ -1,5 +1,6 @@
 -- What a sweep did by its calls.
 use Rattle.std.specs.Prelude.{ℕ, ◌≡◌, ◌+◌, true, false, List, [], ◌∷◌, ◌++◌, length, take, Option, Some, None, Ok}
+use Rattle.db_base.specs.Limits.{tree_ticks}
 use Rattle.db_base.specs.declared.names.Lock.TheVariants as lock
 use Rattle.db_base.specs.declared.names.ObjName.{ObjName}
 use Rattle.db_base.specs.declared.names.ObjName.TheVariants as object
@@ -18,7 +19,6 @@ use Rattle.orphan_sweep.specs.declared.stage.Stage.TheVariants.{TakingTree, Gett
 use Rattle.orphan_sweep.specs.declared.swept.Swept.{Swept}
 use Rattle.orphan_sweep.specs.Pages.{root_held, top_spot, paths_of, onward}
 use Rattle.orphan_sweep.specs.Sweeping.{Sweeping, sweep_ask, next_orphan, is_among, strays, swept_of}
-use Rattle.ckpt_parts.specs.Limits.{tree_ticks}
 
 -- calls with their answers, the newest first
 abbrev pub Calls : Type 0

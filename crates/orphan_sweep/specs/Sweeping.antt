@@ -1,6 +1,7 @@
 -- A sweep as a machine: what it knows, what it asks, and where each answer leads.
 use Rattle.std.specs.Prelude.{ℕ, ◌≡◌, ◌+◌, ◌-◌, ◌==◌, not, Bool, List, [], ◌∷◌, ◌++◌, length, filter, slice_get, Option, Some, None, Result, Ok, Err, if◌then◌else◌}
 use Rattle.std.specs.List.{list_any}
+use Rattle.db_base.specs.Limits.{tree_ticks}
 use Rattle.db_base.specs.declared.names.Lock.TheVariants as lock
 use Rattle.db_base.specs.declared.names.ObjName.TheVariants as object
 use Rattle.db_base.specs.declared.trouble.Trouble.{Trouble}
@@ -19,7 +20,6 @@ use Rattle.orphan_sweep.specs.declared.stage.Stage.{Stage}
 use Rattle.orphan_sweep.specs.declared.stage.Stage.TheVariants.{TakingTree, GettingTree, Reading, Listing, Removing, Releasing, Finished}
 use Rattle.orphan_sweep.specs.declared.swept.Swept.{Swept}
 use Rattle.orphan_sweep.specs.Pages.{leftmost, root_held, top_spot, paths_of, onward}
-use Rattle.ckpt_parts.specs.Limits.{tree_ticks}
 
 -- where a sweep stands: its tree, the tree's lease, the page at hand, the pages that it came to, that one with them, the listed pages that it
 -- did not come to, how many it came to, how many of the others it removed, and the trouble that it answers once its lease is given back

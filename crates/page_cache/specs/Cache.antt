@@ -30,9 +30,13 @@ served_at c name = unwrap_or (lookup (same_name name) c.versions) 0
 
 -- ---- what changes
 
--- an object goes first among those that are kept, and of 65 the last goes
+-- how many objects are kept at most
+abbrev pub most_kept : ℕ
+most_kept = 64
+
+-- an object goes first among those that are kept, and of one too many the last goes
 abbrev pub placed_in : List (ObjName × Option (List ℕ)) → ObjName → Option (List ℕ) → List (ObjName × Option (List ℕ))
-placed_in objects name bytes = take 64 ((name, bytes) ∷ remove_entry (same_name name) objects)
+placed_in objects name bytes = take most_kept ((name, bytes) ∷ remove_entry (same_name name) objects)
 
 abbrev pub placed : Cache → ObjName → Option (List ℕ) → Cache
 placed c name bytes = record c { objects = placed_in c.objects name bytes }
@@ -92,9 +96,9 @@ Did outcome old new (Err t) = (t ≢ trouble.Memory → outcome ≡ Err t) × (n
 
 -- ---- what holds of every cache
 
--- at most 64 objects are kept, each once, and in a spelling of its kind
+-- at most so many objects are kept, each once, and in a spelling of its kind
 pub record AreObjects (objects : List (ObjName × Option (List ℕ))) : Type 0 where
-  pub few : length objects ≤ 64
+  pub few : length objects ≤ most_kept
   pub distinct : IsDistinct same_name (keys_of objects)
   pub spelled : AllByRecursion (λ (o : ObjName × Option (List ℕ)). IsSpelled o.0 o.1) objects
 

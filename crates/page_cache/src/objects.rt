@@ -1,7 +1,7 @@
 ghost use Rattle.std.specs.Prelude.{◌≡◌, ℕ, ◌≤◌, List, [], length, IfOk, IfErr, IfSome, OnOk, OnErr};
 ghost use Rattle.std.specs.Option.{option_copied};
 ghost use Rattle.std.specs.Map.{lookup, remove_entry};
-ghost use Rattle.page_cache.specs.Cache.{AreObjects, placed_in};
+ghost use Rattle.page_cache.specs.Cache.{AreObjects, placed_in, most_kept};
 ghost use Rattle.page_cache.specs.Names.{same_name};
 ghost use Rattle.page_cache.specs.Spelled.{IsSpelled};
 
@@ -36,7 +36,7 @@ impl Model for Objects {
 
     ghost view = { λ o. o.kept.entries };
 
-    ghost invariant = { λ o. (o.kept.cap ≡ 64) × AreObjects o.kept.entries };
+    ghost invariant = { λ o. (o.kept.cap ≡ most_kept) × AreObjects o.kept.entries };
 }
 
 impl Objects {

@@ -1,5 +1,6 @@
 -- Why a page checkpoint stops: each trouble is shown by the answer of the step that brings it.
 use Rattle.std.specs.Prelude.{ℕ, ◌≡◌, ◌≢◌, true, false, List, Option, Some, None, Ok, Err, ◌⊎◌}
+use Rattle.db_base.specs.Limits.{page_ticks}
 use Rattle.db_base.specs.declared.names.Place.{Place}
 use Rattle.db_base.specs.declared.names.Place.TheVariants as place
 use Rattle.db_base.specs.declared.names.ObjName.TheVariants as object
@@ -26,7 +27,6 @@ use Rattle.page_ckpt.specs.declared.link.Link.{Link}
 use Rattle.page_ckpt.specs.declared.stage.Stage.TheVariants.{GettingHome, Receiving, GettingRight, ReleasingRight}
 use Rattle.page_ckpt.specs.Links.{TakesLink}
 use Rattle.page_ckpt.specs.Paging.{Paging, paging_ask, own_queue, IsNoInner, is_visited}
-use Rattle.ckpt_parts.specs.Limits.{page_ticks}
 use Rattle.cloud_trait.specs.State.{greatest}
 
 -- a call whose failure stops the checkpoint: each but a deletion and a release

@@ -1,5 +1,6 @@
 -- What a page checkpoint did, as its calls tell it.
 use Rattle.std.specs.Prelude.{ℕ, ◌≡◌, ◌+◌, Bool, true, false, List, [], ◌∷◌, length, Option, Some, None, Ok}
+use Rattle.db_base.specs.Limits.{page_ticks, most_received}
 use Rattle.db_base.specs.declared.names.Lock.TheVariants as lock
 use Rattle.db_base.specs.declared.names.ObjName.{ObjName}
 use Rattle.db_base.specs.declared.names.ObjName.TheVariants as object
@@ -28,7 +29,6 @@ use Rattle.ckpt_parts.specs.Leaves.{HoldsLinked}
 use Rattle.page_ckpt.specs.declared.link.Link.{Link}
 use Rattle.page_ckpt.specs.Links.{TakesLink}
 use Rattle.page_ckpt.specs.Paging.{Paging, HoldsNamed, went}
-use Rattle.ckpt_parts.specs.Limits.{page_ticks, most_received}
 
 -- calls with their answers, the newest first
 abbrev pub Calls : Type 0

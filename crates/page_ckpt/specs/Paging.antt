@@ -1,6 +1,7 @@
 -- A page checkpoint as a machine: what it knows, what it asks, and where each answer may lead.
 use Rattle.std.specs.Prelude.{ℕ, ◌≡◌, ◌≢◌, ◌+◌, ◌==◌, ◌||◌, not, Bool, true, false, List, [], ◌∷◌, ◌++◌, length, Option, Some, None, Result, Ok, Err, ◌⊎◌}
 use Rattle.std.specs.List.{list_any}
+use Rattle.db_base.specs.Limits.{page_ticks, most_received}
 use Rattle.db_base.specs.declared.names.Lock.TheVariants as lock
 use Rattle.db_base.specs.declared.names.ObjName.{ObjName}
 use Rattle.db_base.specs.declared.names.ObjName.TheVariants as object
@@ -39,7 +40,6 @@ use Rattle.page_ckpt.specs.declared.leaf.Made.TheVariants.{Leaf as MadeLeaf, Exh
 use Rattle.page_ckpt.specs.declared.link.Link.{Link}
 use Rattle.page_ckpt.specs.declared.stage.Stage.{Stage}
 use Rattle.page_ckpt.specs.declared.stage.Stage.TheVariants.{TakingHome, GettingHome, Receiving, TakingRight, GettingRight, PuttingRight, ReleasingRight, PuttingHome, Deleting as DeletingNext, Releasing, Finished}
-use Rattle.ckpt_parts.specs.Limits.{page_ticks, most_received}
 use Rattle.cloud_trait.specs.State.{greatest}
 
 -- where a checkpoint stands: its page, its leases (the page's first, that of a right page second), what its receive answered, the page

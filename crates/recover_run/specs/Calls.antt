@@ -1,5 +1,6 @@
 -- The calls of a recovery, the newest first, each with its answer.
 use Rattle.std.specs.Prelude.{ℕ, zero, suc, ◌≡◌, ◌⊎◌, true, List, [], ◌∷◌, ◌++◌, slice_get, Option, Some, None, Ok}
+use Rattle.db_base.specs.Limits.{client_ticks, most_received}
 use Rattle.db_base.specs.declared.names.Lock.TheVariants as lock
 use Rattle.db_base.specs.declared.names.ObjName.TheVariants as object
 use Rattle.db_base.specs.declared.names.QueueName.TheVariants as queue
@@ -19,7 +20,6 @@ use Rattle.cloud_trait.specs.Views.{received_of}
 use Rattle.recover_run.specs.declared.items.AtomicItem.{AtomicItem}
 use Rattle.recover_run.specs.declared.wanted.Wanted.{Wanted}
 use Rattle.recover_run.specs.Gathering.{is_lost, is_past}
-use Rattle.recover_run.specs.Recovery.{client_ticks, most_received}
 
 -- what calls asked and answered
 abbrev pub Calls : Type 0

@@ -1,5 +1,6 @@
 -- Which leases a recovery holds after its calls, and which its calls name.
 use Rattle.std.specs.Prelude.{ℕ, ◌≡◌, ◌≢◌, ◌⊎◌, List, [], ◌∷◌, Option, Some, None}
+use Rattle.db_base.specs.Limits.{client_ticks, most_received}
 use Rattle.db_base.specs.declared.names.Lock.TheVariants as lock
 use Rattle.db_base.specs.declared.names.ObjName.TheVariants as object
 use Rattle.db_base.specs.declared.names.QueueName.TheVariants as queue
@@ -15,7 +16,7 @@ use Rattle.recover_run.specs.declared.stage.Aim.{Aim}
 use Rattle.recover_run.specs.declared.stage.Aim.TheVariants.{Opening, Settling}
 use Rattle.recover_run.specs.declared.stage.RecoverAnswer.{RecoverAnswer}
 use Rattle.recover_run.specs.declared.stage.RecoverAnswer.TheVariants.{Opened, Nothing}
-use Rattle.recover_run.specs.Recovery.{Recovery, new_recovery, recovery_ask, recovery_next, client_ticks, most_received}
+use Rattle.recover_run.specs.Recovery.{Recovery, new_recovery, recovery_ask, recovery_next}
 
 -- the recovery of a client came here from its first call on by these calls, the newest first
 abbrev pub Went : ℕ → Aim → Option Claim → List Deed → Recovery → Type 0

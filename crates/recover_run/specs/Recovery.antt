@@ -1,5 +1,6 @@
 -- An opening or a recovery as a machine: what it knows, what it asks, and where each answer leads.
 use Rattle.std.specs.Prelude.{ℕ, ◌≡◌, ◌≤◌, ◌+◌, ◌-◌, ◌^◌, ◌==◌, ◌++◌, if◌then◌else◌, List, [], ◌∷◌, length, slice_get, Option, Some, None, Result, Ok, Err}
+use Rattle.db_base.specs.Limits.{client_ticks, most_received}
 use Rattle.db_base.specs.declared.names.Lock.TheVariants as lock
 use Rattle.db_base.specs.declared.names.ObjName.TheVariants as object
 use Rattle.db_base.specs.declared.names.QueueName.{QueueName}
@@ -80,13 +81,6 @@ new_recovery client aim old = record {
 }
 
 -- ---- the call in hand
-
--- for how many ticks a client's lock is taken, and how many messages a receive wants
-abbrev pub client_ticks : ℕ
-client_ticks = 600
-
-abbrev pub most_received : ℕ
-most_received = 256
 
 abbrev pub take_lease : Recovery → Ask
 take_lease r = Take (lock.Client r.client) client_ticks

@@ -1,12 +1,14 @@
 -- How lists behind their length are read: the records of a scan, and the lists of a report, line by line.
 use Rattle.std.specs.Prelude.{ℕ, suc, zero, ◌&&◌, nat_le, List, [], ◌∷◌, length, codes, Option, Some, None, option_map, if◌then◌else◌}
 use Rattle.std.specs.Str.{bytes_eq}
+use Rattle.db_base.specs.Limits.{longest_key, longest_payload, longest_attr}
 use Rattle.db_base.specs.declared.change.Change.{Change}
 use Rattle.db_base.specs.declared.change.Change.TheVariants.{Insert, Update, Delete, Add}
 use Rattle.db_base.specs.declared.pair.Pair.{Pair}
 use Rattle.report_types.specs.declared.entry.Entry.{Entry}
 use Rattle.report_types.specs.declared.report.Report.{Report}
 use Rattle.report_types.specs.declared.stored.Stored.{Stored}
+use Rattle.words.specs.Word.{space}
 use Rattle.words.specs.Line.{◌>>=◌, parts_of, word_at, number_at, bytes_at, end_at, last_of, one_of, two_of}
 use Rattle.reply_reading.specs.Naming.{client_of, tree_alone}
 
@@ -43,7 +45,7 @@ stored_of words = do
 
 -- a record of a leaf of a line
 abbrev pub stored_by : List ℕ → Option Stored
-stored_by line = stored_of (parts_of 32 line)
+stored_by line = stored_of (parts_of space line)
 
 -- a number, so many records as words, and nothing else
 unfoldable pub scan_of : List (List ℕ) → Option (List Pair)
@@ -57,16 +59,16 @@ scan_of words = do
 
 -- 1 to 64 bytes
 unfoldable pub key_of : List ℕ → Option (List ℕ)
-key_of bytes = if nat_le 1 (length bytes) && nat_le (length bytes) 64 then Some bytes else None
+key_of bytes = if nat_le 1 (length bytes) && nat_le (length bytes) longest_key then Some bytes else None
 
 -- at most 1,024 bytes
 unfoldable pub payload_of : List ℕ → Option (List ℕ)
-payload_of bytes = if nat_le (length bytes) 1024 then Some bytes else None
+payload_of bytes = if nat_le (length bytes) longest_payload then Some bytes else None
 
 -- 1 to 32 bytes, or none
 unfoldable pub attr_of : Option (List ℕ) → Option (Option (List ℕ))
 attr_of None = Some None
-attr_of (Some bytes) = if nat_le 1 (length bytes) && nat_le (length bytes) 32 then Some (Some bytes) else None
+attr_of (Some bytes) = if nat_le 1 (length bytes) && nat_le (length bytes) longest_attr then Some (Some bytes) else None
 
 -- a key and nothing else
 unfoldable pub key_alone : List (List ℕ) → Option (List ℕ)
@@ -131,7 +133,7 @@ entry_of tree words = do
 
 -- an entry of a line
 abbrev pub entry_by : ℕ → List ℕ → Option Entry
-entry_by tree line = entry_of tree (parts_of 32 line)
+entry_by tree line = entry_of tree (parts_of space line)
 
 -- ---- reports
 
@@ -145,7 +147,7 @@ named name words = do
 unfoldable pub count_at : List ℕ → List (List ℕ) → Option (ℕ × List (List ℕ))
 count_at name lines = do
   line ← word_at lines
-  words ← named name (parts_of 32 line.0)
+  words ← named name (parts_of space line.0)
   count ← one_of words
   Some (count, line.1)
 
@@ -160,7 +162,7 @@ unfoldable pub left_of : List (List ℕ) → Option (ℕ × ℕ)
 left_of lines = do
   line ← word_at lines
   end ← end_at line.1
-  words ← named (codes "left") (parts_of 32 line.0)
+  words ← named (codes "left") (parts_of space line.0)
   two_of words
 
 -- the report of the words behind its first one, and of its other lines

@@ -1,6 +1,7 @@
 -- How identifiers and names are read.
 use Rattle.std.specs.Prelude.{ℕ, ◌&&◌, nat_le, List, [], ◌∷◌, codes, Option, Some, None, option_map, if◌then◌else◌}
 use Rattle.std.specs.Str.{bytes_eq}
+use Rattle.db_base.specs.Limits.{last_client, last_tree}
 use Rattle.db_base.specs.declared.names.Lock.{Lock}
 use Rattle.db_base.specs.declared.names.Lock.TheVariants as lock
 use Rattle.db_base.specs.declared.names.ObjName.{ObjName}
@@ -14,11 +15,11 @@ use Rattle.words.specs.Line.{◌>>=◌, parts_of, word_at, end_at, one_of, two_o
 
 -- a client, 1 to 64
 unfoldable pub client_of : ℕ → Option ℕ
-client_of n = if nat_le 1 n && nat_le n 64 then Some n else None
+client_of n = if nat_le 1 n && nat_le n last_client then Some n else None
 
 -- a tree, 1 to 16
 unfoldable pub tree_of : ℕ → Option ℕ
-tree_of n = if nat_le 1 n && nat_le n 16 then Some n else None
+tree_of n = if nat_le 1 n && nat_le n last_tree then Some n else None
 
 -- a page, from 1 on
 unfoldable pub page_of : ℕ → Option ℕ

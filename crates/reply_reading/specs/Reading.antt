@@ -6,6 +6,7 @@ use Rattle.db_base.specs.declared.refusal.Refusal.{Refusal}
 use Rattle.db_base.specs.declared.trouble.CommitAnswer.TheVariants.{Committed, NotCommitted, InDoubt, CommittedOpen}
 use Rattle.db_base.specs.declared.trouble.Trouble.{Trouble}
 use Rattle.db_base.specs.declared.trouble.Trouble.TheVariants.{Failed, Late, Busy, Waiting, Stale, Absent, NotALeaf, Damaged, BadFence, Loop, Exhausted}
+use Rattle.words.specs.Word.{space}
 use Rattle.words.specs.Line.{◌>>=◌, parts_of, word_at, number_at, bytes_at, end_at, one_of, two_of, three_of}
 use Rattle.reply_reading.specs.Naming.{page_of, page_alone, lock_of, place_of}
 use Rattle.reply_text.specs.declared.reply.Reply.{Reply}
@@ -160,4 +161,4 @@ reply_of_words words lines = do
 unfoldable pub reply_of_lines : List (List ℕ) → Option Reply
 reply_of_lines lines = do
   first ← word_at lines
-  reply_of_words (parts_of 32 first.0) first.1
+  reply_of_words (parts_of space first.0) first.1

@@ -1,5 +1,6 @@
 -- A service call as a text: what it does and to what.
 use Rattle.std.specs.Prelude.{ℕ, List, [], ◌∷◌, codes}
+use Rattle.words.specs.Word.{space}
 use Rattle.words.specs.Line.{text_of}
 use Rattle.db_base.specs.declared.names.Place.TheVariants.{Message}
 use Rattle.cloud_trait.specs.declared.call.CallKind.{CallKind}
@@ -47,4 +48,4 @@ target_word (target.Lock lock) = lock_word lock
 
 -- a call
 abbrev pub call_text : Ask → List ℕ
-call_text ask = text_of 32 (kind_word (kind_of ask) ∷ target_word (target_of ask) ∷ [])
+call_text ask = text_of space (kind_word (kind_of ask) ∷ target_word (target_of ask) ∷ [])

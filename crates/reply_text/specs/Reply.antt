@@ -3,7 +3,7 @@ use Rattle.std.specs.Prelude.{ℕ, ◌≡◌, Result, IfOk, List, [], ◌∷◌,
 use Rattle.std.specs.Fmt.{decimal}
 use Rattle.std.specs.declared.string.String.{String}
 use Rattle.std.specs.String.{string_bytes}
-use Rattle.words.specs.Word.{hexadecimal}
+use Rattle.words.specs.Word.{hexadecimal, space, newline}
 use Rattle.words.specs.Line.{text_of, last_words}
 use Rattle.db_base.specs.Refusal.{number_of_refusal}
 use Rattle.db_base.specs.declared.refusal.Refusal.{Refusal}
@@ -112,14 +112,14 @@ entry_words entry = decimal entry.client ∷ decimal entry.epoch ∷ decimal ent
 
 -- the line of a record, and that of an entry
 abbrev pub stored_text : Stored → List ℕ
-stored_text stored = text_of 32 (stored_words stored)
+stored_text stored = text_of space (stored_words stored)
 
 abbrev pub entry_text : Entry → List ℕ
-entry_text entry = text_of 32 (entry_words entry)
+entry_text entry = text_of space (entry_words entry)
 
 -- the line of a list's name and length
 abbrev pub count_text : List ℕ → ℕ → List ℕ
-count_text name count = text_of 32 (name ∷ decimal count ∷ [])
+count_text name count = text_of space (name ∷ decimal count ∷ [])
 
 -- the lines of a list, behind a line with its length
 abbrev pub section_lines : {A : Type 0} → List ℕ → (A → List (List ℕ)) → List A → List (List (List ℕ))
@@ -164,15 +164,15 @@ reply_lines (reply.Report report) = report_lines report
 
 -- the text of a reply, without its event's number and without a line feed at its end
 abbrev pub reply_text : Reply → List ℕ
-reply_text reply = text_of 10 (map (text_of 32) (reply_lines reply))
+reply_text reply = text_of newline (map (text_of space) (reply_lines reply))
 
 -- what was written is the line of these words, unless it failed
 abbrev pub Spells : {Z E : Type 0} → Result (String Z) E → List (List ℕ) → Type 0
-Spells {Z} result words = IfOk result (λ (text : String Z). string_bytes text ≡ text_of 32 words)
+Spells {Z} result words = IfOk result (λ (text : String Z). string_bytes text ≡ text_of space words)
 
 -- and the lines of these words
 abbrev pub SpellsLines : {Z E : Type 0} → Result (String Z) E → List (List (List ℕ)) → Type 0
-SpellsLines {Z} result lines = IfOk result (λ (text : String Z). string_bytes text ≡ text_of 10 (map (text_of 32) lines))
+SpellsLines {Z} result lines = IfOk result (λ (text : String Z). string_bytes text ≡ text_of newline (map (text_of space) lines))
 
 -- the text has more behind it
 abbrev pub AddsText : {Z : Type 0} → String Z → String Z → List ℕ → Type 0

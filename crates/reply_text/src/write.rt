@@ -1,7 +1,7 @@
 ghost use Rattle.std.specs.Prelude.{◌≡◌, [], ◌∷◌, ◌++◌, IfOk, IfErr, OnOk, map, codes, length};
 ghost use Rattle.std.specs.Fmt.{decimal};
 ghost use Rattle.std.specs.String.{string_bytes};
-ghost use Rattle.words.specs.Word.{hexadecimal};
+ghost use Rattle.words.specs.Word.{hexadecimal, space, newline};
 ghost use Rattle.reply_text.specs.Reply.{refusal_word, counter_word, trouble_words, HasText, behind_each, pair_word, stored_words, entry_words, change_words, commit_words, CommitHasText, report_lines, reply_text, ReplyHasText, refusal_words, count_text, stored_text, entry_text, Spells, SpellsLines, AddsText};
 
 use crate::name::{lock_word, place_word};
@@ -298,7 +298,7 @@ fn add_text(text: &mut String, separator: &str, more: &str) -> Result<(), AllocE
 
 /// Adds a record as a word behind a space, with no text of its own: a scan writes thousands.
 fn add_pair_word(text: &mut String, key: &[u8], payload: &[u8]) -> Result<(), AllocError>
-    ensures { OnOk result (AddsText text.old text.new (32 ∷ pair_word (record { key = key.now; payload = payload.now }))) }
+    ensures { OnOk result (AddsText text.old text.new (space ∷ pair_word (record { key = key.now; payload = payload.now }))) }
 {
     text.push(' ')?;
     add_hexadecimal(text, key)?;
@@ -346,7 +346,7 @@ fn add_entries(alloc: Global, text: &mut String, entries: &[Entry]) -> Result<()
 
 /// Adds the line of a list's name and length behind a line feed.
 fn add_count(alloc: Global, text: &mut String, name: &str, count: usize) -> Result<(), TextFault>
-    ensures ok { OnOk result (AddsText text.old text.new (10 ∷ count_text name.now count)) }
+    ensures ok { OnOk result (AddsText text.old text.new (newline ∷ count_text name.now count)) }
     ensures memory { IfErr result (λ e. e ≡ TextFault.Memory) }
 {
     let count = count as u64;

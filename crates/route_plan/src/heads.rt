@@ -1,4 +1,5 @@
 ghost use Rattle.std.specs.Prelude.{◌≡◌, length, ◌≤◌, ◌++◌, take, map, IfOk, OnOk, OnErr};
+ghost use Rattle.db_base.specs.Limits.{most_changes};
 ghost use Rattle.route_plan.specs.Heads.{counter_cmp, opened_head, raised_by, settled_head, with_counter};
 ghost use Rattle.route_plan.specs.Record.{counter_of, pending_of};
 
@@ -73,7 +74,7 @@ pub fn open_head(
     txn: u64,
     records: &[AtomicRec],
 ) -> Result<(), AllocError>
-    requires { length records.now ≤ 200 }
+    requires { length records.now ≤ most_changes }
     ensures ok { OnOk result (head.new ≡ opened_head head.old txn records.now) }
     ensures err { OnErr result (head.new ≡ head.old) }
 {

@@ -1,5 +1,6 @@
 ghost use Rattle.std.specs.Prelude.{◌≡◌, ℕ, ◌+◌, ◌≤◌, List, length, take, Some, count_by, slice_get};
 ghost use Rattle.std.specs.List.{AllByRecursion};
+ghost use Rattle.db_base.specs.Limits.{most_changes};
 ghost use Rattle.head_codec.specs.Spelling.{HasSpelling};
 ghost use Rattle.head_codec.specs.declared.head.Head.{Head};
 ghost use Rattle.leaf_view.specs.Leaf.{Leaf};
@@ -32,9 +33,9 @@ pub fn counters_count_the_records()
 /// What a commit sends and puts has spellings, where the home's head has one.
 pub fn a_commit_has_spellings()
     ensures records { (client epoch txn : ℕ) (head : Head) (changes : List Noted) (leaves : List ℕ) →
-        1 ≤ epoch → 1 ≤ txn → length changes ≤ 200 → AllByRecursion HasPlace (routed client epoch txn head changes leaves) }
+        1 ≤ epoch → 1 ≤ txn → length changes ≤ most_changes → AllByRecursion HasPlace (routed client epoch txn head changes leaves) }
     ensures opened { (head : Head) (txn : ℕ) (records : List AtomicRec) → HasSpelling head →
-        1 ≤ length records → length records ≤ 200 → AllByRecursion HasPlace records → HasSpelling (opened_head head txn records) }
+        1 ≤ length records → length records ≤ most_changes → AllByRecursion HasPlace records → HasSpelling (opened_head head txn records) }
     ensures settled { (head : Head) (records : List AtomicRec) → HasSpelling head →
         AllByRecursion HasPlace records → HasSpelling (settled_head head records) }
     ensures pruned_by_leaf { (head : Head) (client tree : ℕ) (leaf : Leaf) → HasSpelling head → HasSpelling (pruned_by_leaf head client tree leaf) }

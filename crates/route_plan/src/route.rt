@@ -1,4 +1,5 @@
 ghost use Rattle.std.specs.Prelude.{◌≡◌, ◌⊎◌, [], ◌∷◌, ◌++◌, length, ◌≤◌, ◌+◌, ◌<◌, ◌^◌, IfOk, IfErr, OnOk, MatchOption};
+ghost use Rattle.db_base.specs.Limits.{most_changes};
 ghost use Rattle.txn_buffer.specs.Noted.{Noted};
 ghost use Rattle.route_plan.specs.Queue.{queue_of};
 ghost use Rattle.route_plan.specs.Route.{next_number, record_behind, routed, AllFit, PassesGreatest};
@@ -24,7 +25,7 @@ struct Commit {
 
 /// The number of the next record of a queue behind the earlier records of the commit; nothing where it would pass the greatest u64.
 fn next_number(head: &Head, earlier: &[AtomicRec], tree: TreeId, page: u64) -> Option<u64>
-    requires { length earlier.now ≤ 200 }
+    requires { length earlier.now ≤ most_changes }
     ensures { MatchOption result (2 ^ 64 ≤ next_number head.now earlier.now tree page)
         (λ n. (n < 2 ^ 64) × (n ≡ next_number head.now earlier.now tree page)) }
 {
@@ -47,7 +48,7 @@ fn record_behind(
     change: &Change,
     leaf: PageId,
 ) -> Result<AtomicRec, Trouble>
-    requires few { length earlier.now < 200 }
+    requires few { length earlier.now < most_changes }
     requires index { index.now ≡ head.now.pending }
     ensures ok { IfOk result (λ r. r ≡ record_behind commit.now.client commit.now.epoch commit.now.txn commit.now.count head.now earlier.now (record { tree = tree; change = change.now }) leaf) }
     ensures fits { IfOk result (λ r. r.number < 2 ^ 64) }

@@ -1,6 +1,7 @@
 -- What the load of a text writes and leaves.
 use Rattle.std.specs.Prelude.{ℕ, ◌≡◌, List, [], ◌∷◌, ◌++◌, Result, Ok, Err, IfOk, codes}
 use Rattle.std.specs.Fmt.{decimal}
+use Rattle.words.specs.Word.{space, newline}
 use Rattle.db_io.specs.Writes.{Written, AddsOne, AddsPart}
 use Rattle.dump_text.specs.BadLine.{IsBadLine}
 use Rattle.dump_text.specs.declared.dump.DumpedTree.{DumpedTree}
@@ -22,7 +23,7 @@ use Rattle.schedule_run.specs.declared.loading.LoadingFault.TheVariants.{BadLine
 -- what is written of a load: how many records it committed and how many calls its settling made; or `not-empty` with a name, the answer of the commit at
 -- which it stopped, or the trouble
 abbrev pub load_text : Result Loaded LoadStop → List ℕ
-load_text (Ok loaded) = codes "loaded" ++ (32 ∷ decimal loaded.records ++ (10 ∷ count_line (codes "settled") loaded.calls))
+load_text (Ok loaded) = codes "loaded" ++ (space ∷ decimal loaded.records ++ (newline ∷ count_line (codes "settled") loaded.calls))
 load_text (Err (load.NotEmpty name)) = name_line (codes "not-empty") name
 load_text (Err (load.Stopped trouble)) = plain_line (reply.Trouble trouble)
 load_text (Err (load.Opening trouble)) = plain_line (reply.Trouble trouble)

@@ -1,6 +1,7 @@
 -- What is written of replies.
-use Rattle.std.specs.Prelude.{ℕ, ◌≡◌, ◌+◌, List, [], ◌∷◌, ◌++◌}
+use Rattle.std.specs.Prelude.{ℕ, ◌≡◌, ◌+◌, List, [], ◌∷◌, ◌++◌, codes}
 use Rattle.std.specs.Fmt.{decimal}
+use Rattle.words.specs.Word.{space, newline}
 use Rattle.db_io.specs.Writes.{Written, AddsEach, AddsPart}
 use Rattle.reply_text.specs.declared.reply.Reply.{Reply}
 use Rattle.reply_text.specs.Reply.{reply_text}
@@ -9,19 +10,19 @@ use Rattle.schedule_run.specs.Outside.{Effects}
 
 -- a reply as it is written: a number, a space, its text, a line feed
 abbrev pub reply_line : ℕ → Reply → List ℕ
-reply_line n reply = decimal n ++ 32 ∷ reply_text reply ++ 10 ∷ []
+reply_line n reply = decimal n ++ space ∷ reply_text reply ++ newline ∷ []
 
 -- under no number: its text, a line feed
 abbrev pub plain_line : Reply → List ℕ
-plain_line reply = reply_text reply ++ 10 ∷ []
+plain_line reply = reply_text reply ++ newline ∷ []
 
 -- a word, a space, a name, a line feed
 abbrev pub name_line : List ℕ → List ℕ → List ℕ
-name_line word name = word ++ (32 ∷ name ++ 10 ∷ [])
+name_line word name = word ++ (space ∷ name ++ newline ∷ [])
 
 -- a word, a space, a number, a line feed
 abbrev pub count_line : List ℕ → ℕ → List ℕ
-count_line word count = word ++ (32 ∷ decimal count ++ 10 ∷ [])
+count_line word count = word ++ (space ∷ decimal count ++ newline ∷ [])
 
 -- the replies to lines in order, each a text for itself, the first under this number
 abbrev pub replies_from : ℕ → List Line → List (List ℕ)
@@ -38,7 +39,7 @@ shown_from n (reply ∷ replies) = reply_line n reply ∷ shown_from (n + 1) rep
 
 -- what is written of a line that is in no grammar: `bad line`, a space, the number of the line, a line feed
 abbrev pub bad_line : ℕ → List ℕ
-bad_line n = 98 ∷ 97 ∷ 100 ∷ 32 ∷ 108 ∷ 105 ∷ 110 ∷ 101 ∷ 32 ∷ decimal n ++ 10 ∷ []
+bad_line n = codes "bad line " ++ decimal n ++ newline ∷ []
 
 -- each of these texts is written, in one write, and behind them nothing or a first part of that one, in one write
 pub record AddsFront (written now_written : Written) (texts : List (List ℕ)) (text : List ℕ) : Type 0 where

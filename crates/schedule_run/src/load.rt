@@ -1,6 +1,7 @@
 //! Filling an empty database from a dump by ordinary commits.
 
 ghost use Rattle.std.specs.Prelude.{◌≡◌, ◌<◌, ◌^◌, [], ◌∷◌, map, take, drop, length, IfOk, OnOk};
+ghost use Rattle.db_base.specs.Limits.{most_changes};
 ghost use Rattle.dump_text.specs.Dump.{IsDumpable};
 ghost use Rattle.event_text.specs.declared.event.Event.TheVariants.{Open, Commit};
 ghost use Rattle.schedule_run.specs.Load.{LoadEnded, Loads, Settles, Runs, IsPassedOver, GoesThrough, answer_of, calls_of, stop_of_look};
@@ -157,7 +158,7 @@ fn commit_part<S: SessionCalls, C: Bench>(
 ) -> Result<(), LoadStop>
     ensures went { GoesThrough (part_events (take 200 left.old)) result
         (C.seen cloud.old) (C.seen cloud.new) play.old play.new }
-    ensures left { OnOk result (left.new ≡ drop 200 left.old) }
+    ensures left { OnOk result (left.new ≡ drop most_changes left.old) }
 {
     let part = left.again();
     note_part(alloc, play, cloud, left)?;
@@ -174,7 +175,7 @@ fn note_part<S: SessionCalls, C: Bench>(
 ) -> Result<(), LoadStop>
     ensures went { GoesThrough (map insert_of (take 200 left.old)) result
         (C.seen cloud.old) (C.seen cloud.new) play.old play.new }
-    ensures left { OnOk result (left.new ≡ drop 200 left.old) }
+    ensures left { OnOk result (left.new ≡ drop most_changes left.old) }
 {
     for noted in 0..PART {
         let Some((tree, record)) = left.next() else {

@@ -2,6 +2,7 @@
 
 ghost use Rattle.std.specs.Prelude.{◌≡◌, [], ◌∷◌, ◌++◌, codes, IfOk, OnOk};
 ghost use Rattle.std.specs.Fmt.{decimal};
+ghost use Rattle.words.specs.Word.{newline};
 ghost use Rattle.schedule_run.specs.Summary.{labelled, committed_word, order_word, contents_word, left_words, summary};
 ghost use Rattle.reply_text.specs.Reply.{reply_text};
 
@@ -108,7 +109,7 @@ fn add_contents(alloc: Global, text: &mut Blob, reply: &Reply) -> Result<(), Ref
 
 /// Adds a line of the text of a reply.
 fn add_text(alloc: Global, text: &mut Blob, reply: &Reply) -> Result<(), Refused>
-    ensures { OnOk result (text.new ≡ text.old ++ reply_text reply.now ++ 10 ∷ []) }
+    ensures { OnOk result (text.new ≡ text.old ++ reply_text reply.now ++ newline ∷ []) }
 {
     let line = text_of(alloc, reply)?;
     text.add(line.as_slice())?;

@@ -18,7 +18,7 @@ use Rattle.ckpt_policy.specs.declared.place.Place.{Place}
 use Rattle.ckpt_policy.specs.declared.role.Role.TheVariants.{Writer}
 use Rattle.ckpt_policy.specs.Counting.{after_note}
 use Rattle.ckpt_policy.specs.Due.{due}
-use Rattle.ckpt_policy.specs.Ledger.{IsNumber, most_received}
+use Rattle.ckpt_policy.specs.Ledger.{IsNumber}
 use Rattle.ckpt_policy.specs.Notes.{counts_at, is_here, known, place_cmp, place_of, queue_at, queue_of}
 use Rattle.cloud_trait.proofs.EffectLemmas.{effect_messages}
 use Rattle.cloud_trait.proofs.NameLemmas.{queue_cmp-equal}
@@ -33,6 +33,7 @@ use Rattle.cloud_trait.specs.Weather.{Weather}
 use Rattle.cloud_trait.specs.declared.answer.Answer.{Answer}
 use Rattle.cloud_trait.specs.declared.message.Message.{Message}
 use Rattle.cloud_trait.specs.declared.state.Posted.{Posted}
+use Rattle.db_base.specs.Limits.{most_received}
 use Rattle.db_base.specs.declared.names.ObjName.TheVariants as object
 use Rattle.db_base.specs.declared.names.QueueName.{QueueName}
 use Rattle.db_base.specs.declared.names.QueueName.TheVariants.{Atomic, TreePu, PagePu}

@@ -6,8 +6,8 @@ use Rattle.cloud_trait.specs.State.{CloudState}
 use Rattle.ckpt_policy.specs.declared.note.Note.{Note}
 use Rattle.ckpt_policy.specs.declared.note.Note.TheVariants.{Sent, Got, Kept}
 use Rattle.ckpt_policy.specs.declared.place.Place.{Place}
-use Rattle.ckpt_policy.specs.Ledger.{most_changes}
 use Rattle.ckpt_policy.specs.Notes.{counts_at, queue_at}
+use Rattle.db_base.specs.Limits.{most_changes}
 use Rattle.db_base.specs.declared.names.QueueName.{QueueName}
 use Rattle.session_notes.specs.Notebook.{note_of_ask, with_note}
 

@@ -1,5 +1,6 @@
 -- A settling ends.
 use Rattle.std.specs.Prelude.{ℕ, ◌+◌, ◌-◌, ◌*◌, ◌^◌, length}
+use Rattle.db_base.specs.Limits.{last_client, last_tree}
 use Rattle.recover_run.specs.End.{calls_left as recovery_left}
 use Rattle.page_ckpt.specs.End.{calls_left as paging_left}
 use Rattle.tree_ckpt.specs.End.{calls_in}
@@ -15,9 +16,9 @@ part_left (Page tree page m) = paging_left m
 
 -- how many clients and queues may come behind it, where so many pages of the tree were come to and no page is come to twice
 abbrev pub places_left : Part → ℕ → ℕ
-places_left (Client client m) visited = (64 - client) + 16 * (2 ^ 64 + 2)
-places_left (Tree tree m) visited = (16 - tree) * (2 ^ 64 + 2) + (2 ^ 64 + 1)
-places_left (Page tree page m) visited = (16 - tree) * (2 ^ 64 + 2) + (2 ^ 64 - visited)
+places_left (Client client m) visited = (last_client - client) + last_tree * (2 ^ 64 + 2)
+places_left (Tree tree m) visited = (last_tree - tree) * (2 ^ 64 + 2) + (2 ^ 64 + 1)
+places_left (Page tree page m) visited = (last_tree - tree) * (2 ^ 64 + 2) + (2 ^ 64 - visited)
 
 -- how many parts: each checkpoint of a queue but the last received an id that was new
 abbrev pub parts_left : Settling → ℕ

@@ -1,6 +1,7 @@
 -- A settling as a machine: what it knows, what it asks, and where each answer may lead.
 use Rattle.std.specs.Prelude.{ℕ, ◌≡◌, ◌+◌, ◌==◌, ◌++◌, nat_lt, Bool, if◌then◌else◌, List, [], ◌∷◌, Option, Some, None}
 use Rattle.std.specs.List.{list_any}
+use Rattle.db_base.specs.Limits.{last_client, last_tree}
 use Rattle.db_base.specs.declared.trouble.Trouble.TheVariants as trouble
 use Rattle.leaf_view.specs.Lookup.{page_at}
 use Rattle.cloud_trait.specs.declared.answer.Answer.{Answer}
@@ -41,7 +42,7 @@ begins s part = Goes (record s { part = part; known = [] })
 
 -- behind the last client comes the first tree
 abbrev pub behind_client : ℕ → Part
-behind_client client = if nat_lt client 64 then part_of_client (client + 1) else part_of_tree 1
+behind_client client = if nat_lt client last_client then part_of_client (client + 1) else part_of_tree 1
 
 -- the checkpoints of a page begin
 abbrev pub to_page : Settling → ℕ → ℕ → Step
@@ -50,7 +51,7 @@ to_page s tree page = begins (record s { visited = s.visited ++ page ∷ [] }) (
 -- the next tree begins, or all are settled
 abbrev pub behind_tree : Settling → ℕ → Step
 behind_tree s tree =
-    if nat_lt tree 16 then begins (record s { visited = [] }) (part_of_tree (tree + 1))
+    if nat_lt tree last_tree then begins (record s { visited = [] }) (part_of_tree (tree + 1))
     else Ends s (record { calls = s.calls })
 
 -- the page's own checkpoints began before

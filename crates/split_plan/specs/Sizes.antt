@@ -1,15 +1,16 @@
 -- How many pieces a list of items is cut into, and how long each of them is.
 use Rattle.std.specs.Prelude.{◌≡◌, ℕ, ◌+◌, ◌-◌, ◌*◌, ◌/◌, ◌%◌, ◌<◌, ◌≤◌, List, [], ◌∷◌, ◌++◌, replicate}
+use Rattle.db_base.specs.Limits.{most_items}
 
 -- the least number of pieces, at least one, of at most 64 items each
 pub record IsLeastCount (len count : ℕ) : Type 0 where
   pub some : 1 ≤ count
-  pub enough : len ≤ 64 * count
-  pub least : (other : ℕ) → 1 ≤ other → len ≤ 64 * other → count ≤ other
+  pub enough : len ≤ most_items * count
+  pub least : (other : ℕ) → 1 ≤ other → len ≤ most_items * other → count ≤ other
 
 -- how many pieces so many items are cut into
 abbrev pub count_of : ℕ → ℕ
-count_of len = (len - 1) / 64 + 1
+count_of len = (len - 1) / most_items + 1
 
 -- so many items in so many pieces, as even as may be: the first pieces have one more where the items do not divide evenly
 abbrev pub sizes_in : ℕ → ℕ → List ℕ

@@ -2,6 +2,7 @@
 
 ghost use Rattle.std.specs.Prelude.{◌≡◌, ◌+◌, ◌<◌, ◌≤◌, length, reverse, IfOk, IfErr, OnOk};
 ghost use Rattle.std.specs.List.{AllByRecursion};
+ghost use Rattle.db_base.specs.Limits.{longest_key};
 ghost use Rattle.split_plan.specs.Plan.{root_above, root_entries, root_pieces, root_puts, with_children, IsNodePart, IsRootCut};
 ghost use Rattle.split_plan.specs.Sizes.{count_of};
 
@@ -16,7 +17,7 @@ use std::alloc::Global;
 
 /// Adds the entries to a root. Refused for memory alone.
 fn add_all(root: &mut TreeBuf, entries: &[NewEntry]) -> Result<(), EditFault>
-    requires { AllByRecursion (λ e. length e.low ≤ 64) entries.now }
+    requires { AllByRecursion (λ e. length e.low ≤ longest_key) entries.now }
     ensures ok { OnOk result (root.new ≡ with_children entries.now root.old) }
     ensures memory { IfErr result (λ e. e ≡ EditFault.Memory) }
 {

@@ -1,6 +1,7 @@
 -- A call as a line of words.
 use Rattle.std.specs.Prelude.{ℕ, Bool, true, false, List, [], ◌∷◌, ◌++◌, Option, Some, None, codes}
 use Rattle.std.specs.Fmt.{decimal}
+use Rattle.words.specs.Word.{space, newline}
 use Rattle.reply_text.specs.Call.{made_word, target_word}
 use Rattle.traced_cloud.specs.declared.stamp.Stamp.{Stamp}
 use Rattle.traced_cloud.specs.declared.stamp.Stamp.TheVariants.{Version, Head}
@@ -11,12 +12,12 @@ use Rattle.traced_cloud.specs.declared.note.Outcome.TheVariants.{Read, Absent, L
 -- how many messages are wanted, or for how many ticks
 abbrev pub limit_text : Option ℕ → List ℕ
 limit_text None = []
-limit_text (Some n) = 32 ∷ decimal n
+limit_text (Some n) = space ∷ decimal n
 
 -- numbers, each behind a space
 abbrev pub more_text : List ℕ → List ℕ
 more_text [] = []
-more_text (id ∷ ids) = (32 ∷ decimal id) ++ more_text ids
+more_text (id ∷ ids) = (space ∷ decimal id) ++ more_text ids
 
 -- numbers of messages, or that there are none
 abbrev pub ids_text : List ℕ → List ℕ
@@ -29,13 +30,13 @@ outcome_text Read = codes "version"
 outcome_text Absent = codes "absent"
 outcome_text Landed = codes "landed"
 outcome_text Done = codes "done"
-outcome_text (Sent id) = codes "sent" ++ 32 ∷ decimal id
+outcome_text (Sent id) = codes "sent" ++ space ∷ decimal id
 outcome_text (Received ids) = ids_text ids
-outcome_text (Listed count) = codes "listed" ++ 32 ∷ decimal count
-outcome_text (Given end) = codes "given" ++ 32 ∷ decimal end
-outcome_text (Held until) = codes "held" ++ 32 ∷ decimal until
-outcome_text (Renewed end) = codes "renewed" ++ 32 ∷ decimal end
-outcome_text (Late end now) = codes "late" ++ 32 ∷ decimal end ++ 32 ∷ decimal now
+outcome_text (Listed count) = codes "listed" ++ space ∷ decimal count
+outcome_text (Given end) = codes "given" ++ space ∷ decimal end
+outcome_text (Held until) = codes "held" ++ space ∷ decimal until
+outcome_text (Renewed end) = codes "renewed" ++ space ∷ decimal end
+outcome_text (Late end now) = codes "late" ++ space ∷ decimal end ++ space ∷ decimal now
 outcome_text Failed = codes "failed"
 outcome_text Memory = codes "memory"
 
@@ -44,11 +45,15 @@ abbrev pub phase_text : Bool → List ℕ
 phase_text true = codes " open"
 phase_text false = codes " settled"
 
+-- what parts an epoch and a transaction
+abbrev pub dot : ℕ
+dot = 46
+
 -- what the object says that was put or got: its version, or a head's epoch, transaction and phase
 abbrev pub stamp_text : Option Stamp → List ℕ
 stamp_text None = []
-stamp_text (Some (Version version)) = 32 ∷ decimal version
-stamp_text (Some (Head epoch txn is_open)) = 32 ∷ decimal epoch ++ 46 ∷ decimal txn ++ phase_text is_open
+stamp_text (Some (Version version)) = space ∷ decimal version
+stamp_text (Some (Head epoch txn is_open)) = space ∷ decimal epoch ++ dot ∷ decimal txn ++ phase_text is_open
 
 -- the word before what an object says that was not put
 abbrev pub lead_text : Outcome → List ℕ
@@ -77,8 +82,8 @@ answer_text note = outcome_text note.outcome ++ shown_text note.outcome note.sta
 
 -- what a call did, to what, and what it wanted
 abbrev pub named_text : Note → List ℕ
-named_text note = made_word note.kind ++ 32 ∷ target_word note.target ++ limit_text note.limit
+named_text note = made_word note.kind ++ space ∷ target_word note.target ++ limit_text note.limit
 
 -- a call: the number of its event, what it did, an arrow, what it answered
 abbrev pub call_line : Note → List ℕ
-call_line note = decimal note.who.event ++ 32 ∷ named_text note ++ codes " -> " ++ answer_text note ++ 10 ∷ []
+call_line note = decimal note.who.event ++ space ∷ named_text note ++ codes " -> " ++ answer_text note ++ newline ∷ []

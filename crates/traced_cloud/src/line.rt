@@ -2,8 +2,9 @@
 
 ghost use Rattle.std.specs.Prelude.{◌≡◌, ◌∷◌, ◌++◌, [], codes, OnOk};
 ghost use Rattle.std.specs.Fmt.{decimal};
+ghost use Rattle.words.specs.Word.{space};
 ghost use Rattle.reply_text.specs.Call.{target_word};
-ghost use Rattle.traced_cloud.specs.Line.{limit_text, ids_text, more_text, outcome_text, stamp_text, lead_text, shown_text, phase_text, answer_text, named_text, call_line};
+ghost use Rattle.traced_cloud.specs.Line.{limit_text, ids_text, more_text, outcome_text, stamp_text, lead_text, shown_text, phase_text, answer_text, named_text, call_line, dot};
 
 use crate::note::{Note, Outcome};
 use crate::stamp::Stamp;
@@ -24,7 +25,7 @@ pub(crate) fn add_number(text: &mut Blob, n: u64) -> Result<(), Refused>
 
 /// Adds a space and a number.
 fn add_behind(text: &mut Blob, n: u64) -> Result<(), Refused>
-    ensures { OnOk result (text.new ≡ text.old ++ (32 ∷ decimal n)) }
+    ensures { OnOk result (text.new ≡ text.old ++ (space ∷ decimal n)) }
 {
     text.add(b" ")?;
     add_number(text, n)
@@ -32,7 +33,7 @@ fn add_behind(text: &mut Blob, n: u64) -> Result<(), Refused>
 
 /// Adds a word, a space and a number.
 fn add_counted(text: &mut Blob, word: &str, n: u64) -> Result<(), Refused>
-    ensures { OnOk result (text.new ≡ text.old ++ (word.now ++ 32 ∷ decimal n)) }
+    ensures { OnOk result (text.new ≡ text.old ++ (word.now ++ space ∷ decimal n)) }
 {
     text.add(word.as_bytes())?;
     add_behind(text, n)
@@ -75,7 +76,7 @@ fn add_ids(text: &mut Blob, ids: &[MsgId]) -> Result<(), Refused>
 
 /// Adds that a lease was over: its end and the clock.
 fn add_late(text: &mut Blob, end: u64, now: u64) -> Result<(), Refused>
-    ensures { OnOk result (text.new ≡ text.old ++ (codes "late" ++ 32 ∷ decimal end ++ 32 ∷ decimal now)) }
+    ensures { OnOk result (text.new ≡ text.old ++ (codes "late" ++ space ∷ decimal end ++ space ∷ decimal now)) }
 {
     add_counted(text, "late", end)?;
     add_behind(text, now)
@@ -115,7 +116,7 @@ fn add_phase(text: &mut Blob, is_open: bool) -> Result<(), Refused>
 
 /// Adds the epoch and the transaction of a head, and its phase.
 fn add_head(text: &mut Blob, epoch: u64, txn: u64, is_open: bool) -> Result<(), Refused>
-    ensures { OnOk result (text.new ≡ text.old ++ (32 ∷ decimal epoch ++ 46 ∷ decimal txn ++ phase_text is_open)) }
+    ensures { OnOk result (text.new ≡ text.old ++ (space ∷ decimal epoch ++ dot ∷ decimal txn ++ phase_text is_open)) }
 {
     add_behind(text, epoch)?;
     text.add(b".")?;

@@ -1,5 +1,6 @@
 -- What the calls of a tree checkpoint brought where it stops for a trouble.
 use Rattle.std.specs.Prelude.{ℕ, ◌≡◌, ◌≢◌, ◌-◌, false, List, [], ◌∷◌, Option, Some, None, Ok, Err, ◌⊎◌}
+use Rattle.db_base.specs.Limits.{page_ticks, tree_ticks}
 use Rattle.db_base.specs.declared.names.Lock.{Lock}
 use Rattle.db_base.specs.declared.names.Lock.TheVariants as lock
 use Rattle.db_base.specs.declared.names.ObjName.{ObjName}
@@ -128,8 +129,8 @@ Breaks tree cs ask a where_it_is at = ((name : ObjName) × (where_it_is ≡ plac
 
 -- how long leases of a checkpoint are taken for
 abbrev pub ticks_of : Lock → ℕ
-ticks_of (lock.Tree tree) = 60
-ticks_of (lock.Page tree page) = 30
+ticks_of (lock.Tree tree) = tree_ticks
+ticks_of (lock.Page tree page) = page_ticks
 ticks_of (lock.Client client) = 0
 
 -- What these calls brought where this trouble comes of the newest one: a page that is absent was got by it; a loop leads to a page that was read

@@ -3,6 +3,7 @@ use Rattle.std.specs.Prelude.{ℕ, ◌≡◌, ◌≢◌, ◌<◌, ◌≤◌, ◌
 use Rattle.byte_format.specs.Format.{greatest}
 use Rattle.byte_format.specs.Order.{below_bound, bytes_same}
 use Rattle.byte_format.specs.Whole.{whole}
+use Rattle.db_base.specs.Limits.{most_items}
 use Rattle.db_base.specs.declared.trouble.Trouble.{Trouble}
 use Rattle.db_base.specs.declared.trouble.Trouble.TheVariants as trouble
 use Rattle.db_base.specs.declared.trouble.Counter.TheVariants as counter
@@ -61,7 +62,7 @@ raised root links top = risen root.level links top (record root { version = root
 
 -- it is cut where it has more than 64 entries, unless its level is 255
 abbrev pub pages_of_root : Tree → Tree → ℕ
-pages_of_root root t = if nat_lt 64 (length t.entries) && nat_lt root.level 255 then count_of (length t.entries) else 0
+pages_of_root root t = if nat_lt most_items (length t.entries) && nat_lt root.level 255 then count_of (length t.entries) else 0
 
 -- how many new pages it needs; the first piece keeps its page, but for a tree object, whose pieces are all new
 abbrev pub pages_of : Due → ℕ
@@ -77,7 +78,7 @@ size_of (RootDue root links top) = length root.entries
 
 -- it needs at most one new page for each 64 items that it had, and one for each of these calls
 abbrev pub NeedsFew : Due → Calls → Type 0
-NeedsFew due cs = pages_of due ≤ size_of due / 64 + length cs
+NeedsFew due cs = pages_of due ≤ size_of due / most_items + length cs
 
 -- ---- what is spent
 

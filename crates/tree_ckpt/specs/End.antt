@@ -2,6 +2,7 @@
 use Rattle.std.specs.Prelude.{ℕ, ◌+◌, ◌-◌, ◌*◌, ◌≤◌, ◌==◌, List, [], ◌∷◌, length, Option, Some, None, if◌then◌else◌}
 use Rattle.byte_format.specs.Order.{bytes_below}
 use Rattle.db_base.specs.Change.{key_of}
+use Rattle.db_base.specs.Limits.{most_received}
 use Rattle.log_codec.specs.declared.record.PuItem.{PuItem}
 use Rattle.ckpt_parts.specs.Leasing.{claims_of}
 use Rattle.tree_phases.specs.declared.chart.Chart.{Chart}
@@ -73,9 +74,9 @@ abbrev pub on_the_way : Held → Chart → ℕ → ℕ → ℕ
 on_the_way h c keys here = the_end (ids_in h) + room c + a_key * keys + here
 
 abbrev pub calls_in : Work → ℕ
-calls_in TakingTree = the_end 256 + 5 * most + a_key * most + most + 14
-calls_in (GettingTree l) = the_end 256 + 5 * most + a_key * most + most + 13
-calls_in (Receiving l root) = the_end 256 + 5 * most + a_key * most + most + 12
+calls_in TakingTree = the_end most_received + 5 * most + a_key * most + most + 14
+calls_in (GettingTree l) = the_end most_received + 5 * most + a_key * most + most + 13
+calls_in (Receiving l root) = the_end most_received + 5 * most + a_key * most + most + 12
 calls_in (Descending h d) = on_the_way h d.chart (behind_key d.chart) (most + 8)
 calls_in (TakingPage h c) = on_the_way h c.chart (behind_key c.chart) (most + 7)
 calls_in (Folding h f) =

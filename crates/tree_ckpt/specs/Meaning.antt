@@ -1,5 +1,6 @@
 -- What a tree checkpoint did once it is done, as its calls tell it.
 use Rattle.std.specs.Prelude.{ℕ, ◌≡◌, ◌+◌, Bool, true, false, List, [], ◌∷◌, ◌++◌, Option, None, Ok}
+use Rattle.db_base.specs.Limits.{most_received}
 use Rattle.db_base.specs.declared.names.ObjName.TheVariants as object
 use Rattle.db_base.specs.declared.names.QueueName.TheVariants as queue
 use Rattle.node_codec.specs.Node.{raised}
@@ -37,7 +38,7 @@ pub record Opening : Type 0 where
 -- one receive, of 256 at most
 abbrev pub opening_calls : ℕ → Claim → Opening → Calls
 opening_calls tree lease o =
-    (Receive (queue.TreePu tree) 256, Received o.messages) ∷ (GetHeld (object.Tree tree) lease, Got o.got) ∷ (take_tree tree, Given lease) ∷ []
+    (Receive (queue.TreePu tree) most_received, Received o.messages) ∷ (GetHeld (object.Tree tree) lease, Got o.got) ∷ (take_tree tree, Given lease) ∷ []
 
 -- the run is that behind the tree object's cursor of the received records
 pub record IsOpened (o : Opening) : Type 0 where

@@ -1,5 +1,6 @@
 -- What a tree checkpoint asks where it stands, and the leases that it holds there.
 use Rattle.std.specs.Prelude.{ℕ, List, [], ◌∷◌, Option, Some, None}
+use Rattle.db_base.specs.Limits.{page_ticks, tree_ticks, most_received}
 use Rattle.db_base.specs.declared.names.Lock.TheVariants as lock
 use Rattle.db_base.specs.declared.names.ObjName.TheVariants as object
 use Rattle.db_base.specs.declared.names.QueueName.TheVariants as queue
@@ -26,7 +27,7 @@ two_leases l leaf = record { first = Some l; second = Some leaf }
 -- ---- the call in hand
 
 abbrev pub take_tree : ℕ → Ask
-take_tree tree = Take (lock.Tree tree) 60
+take_tree tree = Take (lock.Tree tree) tree_ticks
 
 abbrev pub delete_ask : ℕ → Option ℕ → Ask
 delete_ask tree (Some id) = Delete (queue.TreePu tree) id
@@ -39,9 +40,9 @@ release_ask tree None = take_tree tree
 abbrev pub work_ask : ℕ → Work → Ask
 work_ask tree TakingTree = take_tree tree
 work_ask tree (GettingTree l) = GetHeld (object.Tree tree) l
-work_ask tree (Receiving l root) = Receive (queue.TreePu tree) 256
+work_ask tree (Receiving l root) = Receive (queue.TreePu tree) most_received
 work_ask tree (Descending h d) = descent_ask d h.lease
-work_ask tree (TakingPage h c) = Take (lock.Page c.chart.tree c.page) 30
+work_ask tree (TakingPage h c) = Take (lock.Page c.chart.tree c.page) page_ticks
 work_ask tree (Folding h f) = folding_ask f h.lease
 work_ask tree (ReleasingPage h l o) = Release l
 work_ask tree (LeftPage h o) = take_tree tree

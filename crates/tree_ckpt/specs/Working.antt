@@ -2,6 +2,7 @@
 use Rattle.std.specs.Prelude.{ℕ, ◌≡◌, ◌≢◌, ◌<◌, ◌≤◌, ◌+◌, ◌-◌, true, false, List, [], ◌∷◌, ◌++◌, map, reverse, drop, length, Option, Some, None, Ok, ◌⊎◌}
 use Rattle.std.specs.List.{AllByRecursion}
 use Rattle.db_base.specs.Change.{key_of}
+use Rattle.db_base.specs.Limits.{longest_key, most_items, page_ticks}
 use Rattle.db_base.specs.declared.names.Lock.TheVariants as lock
 use Rattle.db_base.specs.declared.names.ObjName.TheVariants as object
 use Rattle.byte_format.specs.Format.{greatest}
@@ -85,7 +86,7 @@ pub record PutsPieces {A X : Type 0} (key : A → List ℕ) (bytes : Part A X �
   pub first : ℕ
   pub pieces : List (Part A X)
   pub cut : IsCut key first whole pieces
-  pub small : AllByRecursion (λ q. length q.items ≤ 64) pieces
+  pub small : AllByRecursion (λ q. length q.items ≤ most_items) pieces
   pub numbers : Reserves root first (length pieces - 1) placing.reserved
   pub puts : placing.puts ≡ reverse (map (put_of bytes) (on_pages page first pieces))
   pub entries : named ≡ drop 1 (map entry_of (on_pages page first pieces))
@@ -175,7 +176,7 @@ placing_of (Passed link) = no_placing
 abbrev pub held_over : ℕ → Claim → Visit → Calls → Calls
 held_over tree one v rest =
     done_over (puts_of tree one (Some v.lease) (placing_of v.outcome))
-    ((GetHeld (object.Page tree v.page) v.lease, Got v.got) ∷ (Take (lock.Page tree v.page) 30, Given v.lease) ∷ v.looks ++ rest)
+    ((GetHeld (object.Page tree v.page) v.lease, Got v.got) ∷ (Take (lock.Page tree v.page) page_ticks, Given v.lease) ∷ v.looks ++ rest)
 
 -- and then it is given back
 abbrev pub visit_over : ℕ → Claim → Visit → Calls → Calls
@@ -340,7 +341,7 @@ PutsWhole t last = (last.placing ≡ no_placing) × (last.last ≡ tree_bytes t)
 pub record PutsBelow (root t : Tree) (p : RootPlan) : Type 0 where
   pub pieces : List NodePart
   pub cut : IsCut entry_key (t.next + 1) (part_of_node (node_of_root t)) pieces
-  pub small : AllByRecursion (λ q. length q.items ≤ 64) pieces
+  pub small : AllByRecursion (λ q. length q.items ≤ most_items) pieces
   pub numbers : Reserves root t.next (length pieces) p.placing.reserved
   pub puts : p.placing.puts ≡ reverse (map (put_of node_bytes) (on_pages t.next (t.next + 1) pieces))
   pub last : p.last
@@ -349,7 +350,7 @@ pub record PutsBelow (root t : Tree) (p : RootPlan) : Type 0 where
 -- one of more than 64 entries is cut, unless its level is the greatest
 abbrev pub PutsRoot : Tree → Tree → RootPlan → Type 0
 PutsRoot root t last =
-    (((length t.entries ≤ 64) ⊎ (255 ≤ root.level)) × PutsWhole t last) ⊎ ((64 < length t.entries) × (root.level < 255) × PutsBelow root t last)
+    (((length t.entries ≤ most_items) ⊎ (255 ≤ root.level)) × PutsWhole t last) ⊎ ((most_items < length t.entries) × (root.level < 255) × PutsBelow root t last)
 
 -- such a node is among those that are put
 abbrev pub IsPut : ℕ → List ℕ → List Climb → Type 0
@@ -379,21 +380,21 @@ IsNamed Has old links l = (page : ℕ) × Has (l.low, page) × (IsAmong (l.low, 
 
 -- a low key lies in the node's range
 pub record HoldsLow (n : Inner) (low : List ℕ) : Type 0 where
-  pub short : length low ≤ 64
+  pub short : length low ≤ longest_key
   pub from : bytes_below low n.low ≡ false
   pub to : below_bound low n.high ≡ true
 
 -- a link is one of the node's level, and its low key lies in the node's range
 pub record IsInRange (n : Inner) (l : Link) : Type 0 where
   pub level : l.level ≡ n.level
-  pub short : length l.low ≤ 64
+  pub short : length l.low ≤ longest_key
   pub from : bytes_below l.low n.low ≡ false
   pub to : below_bound l.low n.high ≡ true
 
 -- A page that was come to lies under the level above it: its link is of the tree object's level, or its low key lies in the range of a node of the link's
 -- level that was got among these calls.
 abbrev pub IsUnder : ℕ → Tree → Calls → Link → Type 0
-IsUnder tree root cs l = ((l.level ≡ root.level) × (length l.low ≤ 64)) ⊎ ((page : ℕ) × (n : Inner) × WasNode tree page n cs × IsInRange n l)
+IsUnder tree root cs l = ((l.level ≡ root.level) × (length l.low ≤ longest_key)) ⊎ ((page : ℕ) × (n : Inner) × WasNode tree page n cs × IsInRange n l)
 
 -- a right link that was followed, on a way down or from a leaf
 abbrev pub IsFollowed : Link → List Visit → Type 0
@@ -417,7 +418,7 @@ IsNodePiece l (u ∷ us) = IsAmong l (links_at (u.node.level + 1) u.plan.entries
 -- a link is one of the tree object's level, to a page that was reserved
 pub record IsOfRoot (t : Tree) (l : Link) : Type 0 where
   pub level : l.level ≡ t.level
-  pub short : length l.low ≤ 64
+  pub short : length l.low ≤ longest_key
   pub page : l.page < t.next
 
 -- ---- the whole work
@@ -452,9 +453,9 @@ IsNamedAbove tree got w l =
 -- What it has of the link to a new piece: the same, where the low key is below the high key of the node that was got there. Its other bound is known.
 abbrev pub IsNewNamed : ℕ → Option (List ℕ) → Worked → Link → Type 0
 IsNewNamed tree got w l =
-    ((l.level ≡ (last_root got w).level) × (length l.low ≤ 64 → IsNamed (HasRisen l.level w.last) (last_root got w).entries (last_links w) l))
+    ((l.level ≡ (last_root got w).level) × (length l.low ≤ longest_key → IsNamed (HasRisen l.level w.last) (last_root got w).entries (last_links w) l))
     ⊎ ((page : ℕ) × (n : Inner) × WasNode tree page n (looks_of w.visits) × (l.level ≡ n.level) × (bytes_below l.low n.low ≡ false)
-    × (length l.low ≤ 64 → below_bound l.low n.high ≡ true → IsNamed (HasClimbed page l.level w.climbs) n.entries (last_links w) l))
+    × (length l.low ≤ longest_key → below_bound l.low n.high ≡ true → IsNamed (HasClimbed page l.level w.climbs) n.entries (last_links w) l))
 
 -- Each put is as planned from what was got before it; the first tree object is what the get brought. Each item of the run lies in the range of a leaf
 -- that was put, or lacked nothing. An inner node that was got is put where a link that is known goes to it. So each link that is known, to a new piece or

@@ -1,7 +1,9 @@
 -- Inner nodes with the links of their level that lie in their range.
 use Rattle.std.specs.Prelude.{ℕ, ◌+◌, ◌-◌, ◌==◌, ◌&&◌, not, nat_le, Bool, true, List, [], ◌∷◌, length, map, reverse, drop, Result, Ok, Err, if◌then◌else◌}
 use Rattle.std.specs.List.{list_any}
+use Rattle.byte_format.specs.Format.{greatest}
 use Rattle.byte_format.specs.Order.{bytes_below, below_bound}
+use Rattle.db_base.specs.Limits.{longest_key}
 use Rattle.db_base.specs.declared.trouble.Trouble.{Trouble}
 use Rattle.node_codec.specs.Inner.{Inner}
 use Rattle.node_codec.specs.Node.{Entry, with_entry}
@@ -17,7 +19,7 @@ use Rattle.tree_phases.specs.declared.page_plan.PagePlan.{PagePlan}
 
 -- a link of the node's level whose low key lies in its range
 abbrev pub goes_to : Inner → Link → Bool
-goes_to n l = (l.level == n.level) && (nat_le (length l.low) 64 && (not (bytes_below l.low n.low) && below_bound l.low n.high))
+goes_to n l = (l.level == n.level) && (nat_le (length l.low) longest_key && (not (bytes_below l.low n.low) && below_bound l.low n.high))
 
 -- a link goes to the node
 abbrev pub is_touched : Inner → List Link → Bool
@@ -43,7 +45,7 @@ with_links n (l ∷ ls) es = with_links n ls (if goes_to n l then with_entry l.l
 -- the node as it is put next
 abbrev pub linked : Inner → List Link → Result Inner Trouble
 linked n ls =
-    if n.version == 18446744073709551615
+    if n.version == greatest
     then Err version_spent
     else Ok (record n { version = n.version + 1; entries = with_links n ls n.entries })
 

@@ -1,5 +1,6 @@
 -- What is put where a leaf takes a run.
 use Rattle.std.specs.Prelude.{ℕ, ◌-◌, ◌==◌, List, length, map, reverse, drop, Result, Ok, Err, if◌then◌else◌}
+use Rattle.byte_format.specs.Format.{greatest}
 use Rattle.db_base.specs.declared.trouble.Trouble.{Trouble}
 use Rattle.leaf_view.specs.Leaf.{Leaf}
 use Rattle.leaf_edit.specs.Applied.{applied}
@@ -28,4 +29,4 @@ planned root page l = planned_by page l (reservation root page (count_of (length
 
 -- the leaf with the run applied
 abbrev pub leaf_plan : Tree → ℕ → Leaf → List PuItem → Result PagePlan Trouble
-leaf_plan root page l run = if l.version == 18446744073709551615 then Err version_spent else planned root page (applied l 0 run)
+leaf_plan root page l run = if l.version == greatest then Err version_spent else planned root page (applied l 0 run)

@@ -1,5 +1,6 @@
 -- Numbers of new pages, reserved by a put of the tree object.
 use Rattle.std.specs.Prelude.{ℕ, ◌+◌, ◌==◌, nat_lt, List, Option, Some, None, Result, Ok, Err, if◌then◌else◌}
+use Rattle.byte_format.specs.Format.{greatest}
 use Rattle.tree_phases.specs.declared.reserve.Reserved.{Reserved}
 use Rattle.db_base.specs.declared.trouble.Trouble.{Trouble}
 use Rattle.db_base.specs.declared.trouble.Trouble.TheVariants as trouble
@@ -14,12 +15,12 @@ pages_spent = trouble.Exhausted counter.Pages
 
 -- the tree object as it is put next
 abbrev pub next_tree : Tree → Result Tree Trouble
-next_tree t = if t.version == 18446744073709551615 then Err version_spent else Ok (record t { version = t.version + 1 })
+next_tree t = if t.version == greatest then Err version_spent else Ok (record t { version = t.version + 1 })
 
 -- so many numbers are reserved in a tree object, and nothing else is changed
 abbrev pub reserved : ℕ → Tree → Result Reserved Trouble
 reserved count t =
-    if nat_lt 18446744073709551615 (t.next + count)
+    if nat_lt greatest (t.next + count)
     then Err pages_spent
     else Ok (record { put = Some (tree_bytes (record t { next = t.next + count })); first = t.next })
 

@@ -1,5 +1,7 @@
 -- The tree object as it is put last.
 use Rattle.std.specs.Prelude.{ℕ, ◌+◌, ◌==◌, ◌&&◌, nat_le, nat_lt, Bool, true, false, List, [], ◌∷◌, length, map, reverse, Option, None, Result, Ok, Err, if◌then◌else◌}
+use Rattle.byte_format.specs.Format.{greatest}
+use Rattle.db_base.specs.Limits.{longest_key, most_items}
 use Rattle.db_base.specs.declared.trouble.Trouble.{Trouble}
 use Rattle.node_codec.specs.Node.{raised}
 use Rattle.node_codec.specs.Tree.{Tree, tree_bytes, with_child}
@@ -13,7 +15,7 @@ use Rattle.tree_phases.specs.declared.root.RootPlan.{RootPlan}
 
 -- a link of the tree object's level
 abbrev pub is_named : ℕ → Link → Bool
-is_named level l = (l.level == level) && nat_le (length l.low) 64
+is_named level l = (l.level == level) && nat_le (length l.low) longest_key
 
 -- the tree object with the links of its level, but for pages that were never reserved; a low key is there once
 abbrev pub with_named : ℕ → List Link → Tree → Tree
@@ -48,7 +50,7 @@ lowered put spent t first = record {
 -- on so many numbers from `next` on
 abbrev pub cut_at : Option (List ℕ) → ℕ → Bool → Tree → Result RootPlan Trouble
 cut_at put count spent t =
-    if nat_lt 18446744073709551615 (t.next + count)
+    if nat_lt greatest (t.next + count)
     then Err pages_spent
     else Ok (lowered put spent (record t { next = t.next + count }) t.next)
 
@@ -72,4 +74,4 @@ uncut t = record { placing = record { reserved = None; puts = [] }; last = tree_
 
 -- what is put for a raised tree object; one of level 255 is not cut
 abbrev pub root_plan : Tree → Tree → Result RootPlan Trouble
-root_plan root t = if nat_lt 64 (length t.entries) && nat_lt root.level 255 then root_cut root t else Ok (uncut t)
+root_plan root t = if nat_lt most_items (length t.entries) && nat_lt root.level 255 then root_cut root t else Ok (uncut t)

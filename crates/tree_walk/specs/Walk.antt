@@ -18,7 +18,7 @@ use Rattle.cloud_trait.specs.declared.answer.Answer.{Answer}
 use Rattle.cloud_trait.specs.Ask.{Ask, Get}
 use Rattle.cloud_trait.specs.Machine.{Next, Goes, Ends, Stops}
 use Rattle.cloud_trait.specs.Views.{got_of}
-use Rattle.page_cache.specs.Cache.{Cache, accepts, dropped, served_at}
+use Rattle.page_cache.specs.Cache.{Cache, accepts, dropped, served_at, most_kept}
 use Rattle.page_cache.specs.Held.{leaf_at, inner_at, root_at}
 
 -- a page that a link led to: its level, 0 for a leaf, and the low key that the link promised
@@ -212,9 +212,9 @@ unfoldable pub goes_through : Cache → ℕ → Walk → Next Walk ℕ
 goes_through c zero w = Goes w
 goes_through c (suc n) w = onward (goes_through c n) w (read_kept w c)
 
--- through all that the cache keeps on the way: they are 64 at most, and a walk passes none twice
+-- through all that the cache keeps on the way: they are few, and a walk passes none twice
 abbrev pub goes_on : Cache → Walk → Next Walk ℕ
-goes_on c w = goes_through c 64 w
+goes_on c w = goes_through c most_kept w
 
 -- ---- turns
 

@@ -1,8 +1,9 @@
 -- How a map from trees and keys to changes is seen as the list of noted changes.
 use Rattle.std.specs.Prelude.{ℕ, ◌≡◌, ◌≤◌, ◌<◌, List, [], ◌∷◌, length, Option, Some, None, ⊤, map, slice_get}
 use Rattle.db_base.specs.Change.{key_of, net}
+use Rattle.db_base.specs.Limits.{longest_key, most_changes}
 use Rattle.db_base.specs.declared.change.Change.{Change}
-use Rattle.txn_buffer.specs.Noted.{Noted, AreNoted, found_in, noted_in, most_changes}
+use Rattle.txn_buffer.specs.Noted.{Noted, AreNoted, found_in, noted_in}
 use Rattle.txn_buffer.specs.declared.noted_key.NotedKey.{NotedKey}
 
 -- an entry as a noted change
@@ -11,7 +12,7 @@ noted_of entry = record { tree = entry.0.tree; change = entry.1 }
 
 -- an entry's key is that of its change, and has at most 64 bytes
 abbrev pub KeyMatches : NotedKey → Change → Type 0
-KeyMatches key change = (key.key.items ≡ key_of change) × (length key.key.items ≤ 64)
+KeyMatches key change = (key.key.items ≡ key_of change) × (length key.key.items ≤ longest_key)
 
 -- each entry's key is that of its change
 abbrev pub KeysMatch : List (NotedKey × Change) → Type 0

@@ -4,6 +4,7 @@ use Rattle.std.specs.Str.{bytes_eq}
 use Rattle.db_base.specs.Change.{key_of, net}
 use Rattle.db_base.specs.Entry.{index_insert}
 use Rattle.db_base.specs.Ids.{index_of}
+use Rattle.db_base.specs.Limits.{most_changes}
 use Rattle.db_base.specs.declared.change.Change.{Change}
 use Rattle.db_base.specs.declared.refusal.Refusal.TheVariants.{TooManyChanges}
 use Rattle.db_base.specs.declared.refusal.Refused.{Refused}
@@ -42,10 +43,6 @@ put_in list tree key payload attr = noted_in (noted_in list tree (Insert key pay
 abbrev pub AreDistinct : List Noted → Type 0
 AreDistinct [] = ⊤
 AreDistinct (entry ∷ rest) = (found_in rest entry.tree (key_of entry.change) ≡ None) × AreDistinct rest
-
--- the most changes of a transaction
-abbrev pub most_changes : ℕ
-most_changes = 200
 
 -- the entries of a buffer: not too many, each of a tree and key of its own
 pub record AreNoted (list : List Noted) : Type 0 where

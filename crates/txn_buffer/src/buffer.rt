@@ -1,7 +1,8 @@
 ghost use Rattle.std.specs.Prelude.{◌≡◌, ◌≢◌, ◌+◌, ◌≤◌, ◌<◌, ◌↔◌, List, [], length, slice_get, IfOk, OnOk, OnErr, IfErr, IsTrue, is_some, IsOk, if◌then◌else◌, map};
 ghost use Rattle.std.specs.Option.{option_copied, option_map};
 ghost use Rattle.db_base.specs.Change.{key_of, net};
-ghost use Rattle.txn_buffer.specs.Noted.{Noted, found_in, noted_in, both_noted_in, most_changes, AreNoted, FindsFull, AreTooMany, TooManyOrMemory};
+ghost use Rattle.db_base.specs.Limits.{longest_key, most_changes};
+ghost use Rattle.txn_buffer.specs.Noted.{Noted, found_in, noted_in, both_noted_in, AreNoted, FindsFull, AreTooMany, TooManyOrMemory};
 ghost use Rattle.indexmap.specs.IndexMap.{index_map_len, values, spare, with_value_at};
 ghost use Rattle.txn_buffer.specs.Kept.{noted_of, KeysMatch, IsKept, change_at, HasRoomFor, AddsChange, IfAt};
 
@@ -81,7 +82,7 @@ fn store(
 ) -> Result<(), Refused>
     requires kept { IsKept changes.old.entries }
     requires of { key.key.items ≡ key_of change }
-    requires short { length key.key.items ≤ 64 }
+    requires short { length key.key.items ≤ longest_key }
     requires room { HasRoomFor changes.old.entries key.tree change }
     ensures ok { OnOk result (AddsChange changes.old.entries key.tree change changes.new.entries) }
     ensures err { OnErr result (changes.new.entries ≡ changes.old.entries) }

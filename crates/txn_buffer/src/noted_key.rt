@@ -1,5 +1,6 @@
 ghost use Rattle.std.specs.Prelude.{◌≡◌, ℕ, ◌<◌, ◌≤◌, length, IfSome, IfNone};
 ghost use Rattle.db_base.specs.Change.{key_of};
+ghost use Rattle.db_base.specs.Limits.{longest_key};
 
 use arrayvec::ArrayVec;
 use db_base::change::Change;
@@ -23,7 +24,7 @@ impl NotedKey {
     /// The tree and the key, or nothing where the bytes are more than a key has.
     pub fn of(tree: TreeId, key: &[u8]) -> Option<NotedKey>
         ensures some { IfSome result (λ k. (k.tree ≡ tree) × (k.key.items ≡ key.now)) }
-        ensures none { IfNone result (64 < length key.now) }
+        ensures none { IfNone result (longest_key < length key.now) }
     {
         match ArrayVec::try_from(key) {
             Ok(key) => Some(NotedKey { tree, key }),
@@ -35,7 +36,7 @@ impl NotedKey {
     pub fn of_change(tree: TreeId, change: &Change) -> NotedKey
         ensures tree { result.tree ≡ tree }
         ensures key { result.key.items ≡ key_of change.now }
-        ensures short { length result.key.items ≤ 64 }
+        ensures short { length result.key.items ≤ longest_key }
     {
         match NotedKey::of(tree, change.key().as_slice()) {
             Some(key) => key,

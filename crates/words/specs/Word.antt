@@ -8,6 +8,17 @@ use Rattle.hex.specs.Hex.{encode_lower, decode_of}
 use Rattle.words.specs.declared.fault.TextFault.{TextFault}
 use Rattle.words.specs.declared.fault.TextFault.TheVariants.{NotInGrammar, Memory}
 
+-- what stands between two words, and behind a line
+abbrev pub space : ℕ
+space = 32
+
+abbrev pub newline : ℕ
+newline = 10
+
+-- the word of no bytes
+abbrev pub dash : ℕ
+dash = 45
+
 -- what a reader answers: the value that is read, or that nothing is; want of memory tells nothing
 abbrev pub Reads : {A : Type 0} → Result A TextFault → Option A → Type 0
 Reads (Ok x) read = read ≡ Some x
@@ -37,7 +48,7 @@ number_of word =
 
 -- bytes as a word: two lower-case hexadecimal digits a byte, and `-` for no byte
 abbrev pub hexadecimal : List ℕ → List ℕ
-hexadecimal [] = 45 ∷ []
+hexadecimal [] = dash ∷ []
 hexadecimal (b ∷ bytes) = encode_lower (b ∷ bytes)
 
 -- `0` to `9` and `a` to `f`
@@ -52,7 +63,7 @@ is_lower_hex (b ∷ word) = list_all is_lower_digit (b ∷ word)
 -- the bytes that a word spells
 unfoldable pub bytes_of : List ℕ → Option (List ℕ)
 bytes_of word =
-    if bytes_eq word (45 ∷ []) then Some [] else if is_lower_hex word then result_ok (decode_of word) else None
+    if bytes_eq word (dash ∷ []) then Some [] else if is_lower_hex word then result_ok (decode_of word) else None
 
 -- bytes are numbers below 256
 abbrev pub AreBytes : List ℕ → Type 0

@@ -1,5 +1,6 @@
 -- What a report found, by the answers of its looks.
 use Rattle.std.specs.Prelude.{ℕ, ◌≡◌, ◌⊎◌, List, Option, Some, None, Result, Ok, Err}
+use Rattle.db_base.specs.Limits.{last_client}
 use Rattle.db_base.specs.declared.names.ObjName.{ObjName}
 use Rattle.db_base.specs.declared.trouble.Trouble.{Trouble}
 use Rattle.cloud_trait.specs.Seen.{Seen, Showing}
@@ -33,7 +34,7 @@ LeavesFound tree (Err trouble) s = SlipOr (ChainStops s tree trouble) trouble
 
 -- what looks at heads find: how many are open with an entry of the tree, or the first that is none
 abbrev pub HeadsFound : ℕ → List Entry → Result ℕ Trouble → CloudState → Type 0
-HeadsFound tree committed (Ok heads) s = (heads ≡ heads_upto s tree committed 64) × AllHeadsRead s
+HeadsFound tree committed (Ok heads) s = (heads ≡ heads_upto s tree committed last_client) × AllHeadsRead s
 HeadsFound tree committed (Err trouble) s = SlipOr (HeadStops s trouble) trouble
 
 -- what a look at the root finds: which pages have queues, or that it is none
@@ -44,7 +45,7 @@ RootFound tree (Err trouble) s = SlipOr (RootStops s tree trouble) trouble
 -- a report shows a tree of which no part is damaged
 pub record ShowsWhole (s : CloudState) (tree : ℕ) (r : Report) : Type 0 where
   pub contents : Walked s tree 0 r.contents
-  pub heads : r.heads ≡ heads_upto s tree r.committed 64
+  pub heads : r.heads ≡ heads_upto s tree r.committed last_client
   pub chain : ChainIsWhole s tree
   pub read : AllHeadsRead s
   pub root : RootReads s tree

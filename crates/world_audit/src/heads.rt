@@ -2,6 +2,7 @@
 
 ghost use Rattle.std.specs.Prelude.{◌≡◌, ℕ, ◌≤◌, ◌⊎◌, Some, None, IfOk, OnOk, IfErr};
 ghost use Rattle.std.specs.List.{list_any};
+ghost use Rattle.db_base.specs.Limits.{last_client};
 ghost use Rattle.db_base.specs.declared.names.ObjName.TheVariants as object;
 ghost use Rattle.db_base.specs.declared.names.Place.TheVariants as place;
 ghost use Rattle.head_codec.specs.Spelling.{head_of, head_offset};
@@ -101,7 +102,7 @@ pub(crate) fn open_heads<C: Bench>(
 ) -> Result<u64, Trouble>
     ensures looked { Looked (C.seen cloud.old) (C.seen cloud.new) }
     ensures failed { FailsDark result (C.seen cloud.old) (C.seen cloud.new) }
-    ensures most { IfOk result (λ n. n ≤ 64) }
+    ensures most { IfOk result (λ n. n ≤ last_client) }
     ensures found { Shown (C.seen cloud.old) object.Head (HeadsFound tree committed.now result) }
     ensures kinds { IfErr result (MayStop tree) }
 {

@@ -6,7 +6,7 @@ use Rattle.ckpt_policy.specs.declared.note.Note.{Note}
 use Rattle.ckpt_policy.specs.declared.place.Place.{Place}
 use Rattle.ckpt_policy.specs.declared.role.Role.{Role}
 use Rattle.ckpt_policy.specs.declared.role.Role.TheVariants.{Writer, Reader, Watchdog, Owner}
-use Rattle.ckpt_policy.specs.Ledger.{IsNumber, most_changes}
+use Rattle.ckpt_policy.specs.Ledger.{IsNumber}
 use Rattle.ckpt_policy.specs.Notes.{queue_at}
 use Rattle.client_work.specs.declared.op.Op.{Op}
 use Rattle.client_work.specs.declared.op.Op.TheVariants as op
@@ -16,6 +16,7 @@ use Rattle.client_work.specs.Session.{Acting, open_client}
 use Rattle.cloud_facts.proofs.Book.Names.{at_same}
 use Rattle.cloud_facts.specs.Words.{QueueName, Posted, CloudState, Caller, Seen}
 use Rattle.cloud_trait.specs.Delivery.{unmarked}
+use Rattle.db_base.specs.Limits.{most_changes}
 use Rattle.db_base.specs.declared.refusal.Refusal.{Refusal}
 use Rattle.db_base.specs.declared.refusal.Refusal.TheVariants as rule
 use Rattle.db_base.specs.declared.refusal.Refused.{Refused}

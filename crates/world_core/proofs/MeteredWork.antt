@@ -7,7 +7,7 @@ use Rattle.ckpt_policy.specs.declared.place.Place.{Place}
 use Rattle.ckpt_policy.specs.declared.role.Role.{Role}
 use Rattle.ckpt_policy.specs.declared.role.Role.TheVariants.{Writer}
 use Rattle.ckpt_policy.specs.Due.{due}
-use Rattle.ckpt_policy.specs.Ledger.{Account, most_changes}
+use Rattle.ckpt_policy.specs.Ledger.{Account}
 use Rattle.ckpt_policy.specs.Notes.{IsPending, queue_at}
 use Rattle.client_work.specs.declared.answer.Answer.{Answer}
 use Rattle.client_work.specs.declared.answer.Answer.TheVariants as answer
@@ -18,6 +18,7 @@ use Rattle.cloud_facts.proofs.Book.Names.{at_same}
 use Rattle.cloud_trait.specs.declared.turn.CkptAnswer.{CkptAnswer}
 use Rattle.cloud_facts.specs.Words.{QueueName, CloudState, Caller, Seen}
 use Rattle.cloud_trait.specs.Delivery.{unmarked}
+use Rattle.db_base.specs.Limits.{most_changes}
 use Rattle.db_base.specs.declared.names.QueueName.TheVariants.{Atomic, TreePu, PagePu}
 use Rattle.db_base.specs.declared.wish.Wish.TheVariants.{Plain}
 use Rattle.page_ckpt.specs.Paging.{new_paging, paging_ask, PagingLeads}

@@ -1,9 +1,10 @@
 -- How many messages a writer leaves in the pending update queues.
 use Rattle.std.specs.Prelude.{ℕ, ◌≡◌, ◌+◌, ◌-◌, ◌≤◌, List, length, slice_get, Some, Result, Ok, Err}
+use Rattle.db_base.specs.Limits.{most_changes}
 use Rattle.ckpt_policy.specs.declared.note.Note.{Note}
 use Rattle.ckpt_policy.specs.declared.place.Place.{Place}
 use Rattle.ckpt_policy.specs.declared.role.Role.TheVariants.{Writer}
-use Rattle.ckpt_policy.specs.Ledger.{Account, IsNumber, StandsFor as AccountStands, most_changes}
+use Rattle.ckpt_policy.specs.Ledger.{Account, IsNumber, StandsFor as AccountStands}
 use Rattle.cloud_trait.specs.State.{CloudState}
 use Rattle.event_text.specs.declared.event.Event.{Event}
 use Rattle.replay_meaning.specs.Standing.{Line}

@@ -6,6 +6,7 @@ use Rattle.client_work.specs.declared.answer.Answer.{Answer}
 use Rattle.cloud_facts.specs.Words.{IsClient, IsTree, Lock, Entry, Turn, CloudState, Caller, Seen, Ask}
 use Rattle.cloud_trait.specs.Delivery.{unmarked}
 use Rattle.cloud_trait.specs.declared.answer.Answer.TheVariants.{Memory}
+use Rattle.db_base.specs.Limits.{last_client}
 use Rattle.db_base.specs.declared.names.QueueName.TheVariants as queue
 use Rattle.db_base.specs.declared.wish.Wish.{Wish}
 use Rattle.event_text.specs.declared.event.Event.{Event}
@@ -26,7 +27,6 @@ use Rattle.world_core.specs.Explained.{StepExplains}
 use Rattle.world_core.specs.Handled.{Handled, StepsLooked}
 use Rattle.world_core.specs.declared.world.WorldFault.{WorldFault}
 use Rattle.world_core.specs.Span.{Span}
-use Rattle.world_core.specs.World.{last_client}
 
 -- in a step's call no message and no lock was withheld
 abbrev pub StepDelivers : StepFact

@@ -1,5 +1,6 @@
 -- What stands after a line where it stood before it.
 use Rattle.std.specs.Prelude.{ℕ, ◌≡◌, ◌+◌, ◌<◌, List, [], ◌∷◌, ◌++◌, length, Some, Result, Ok, Err}
+use Rattle.db_base.specs.Limits.{last_client}
 use Rattle.cloud_trait.specs.State.{CloudState}
 use Rattle.cloud_trait.specs.Seen.{Seen}
 use Rattle.cloud_trait.specs.Traced.{IsTraced}
@@ -13,7 +14,7 @@ use Rattle.replay_meaning.specs.Standing.{Line}
 use Rattle.replay_meaning.specs.Right.{ReportIsRight}
 use Rattle.session_facts.specs.Lines.Counted.{calls_told, CountsAll}
 use Rattle.session_facts.specs.Lines.Facts.{session_at, Stands, SomeBookStands}
-use Rattle.world_core.specs.World.{World, last_client}
+use Rattle.world_core.specs.World.{World}
 use Rattle.world_core.specs.declared.world.WorldFault.{WorldFault}
 use Rattle.world_core.specs.Span.{Span}
 

@@ -4,10 +4,6 @@ use Rattle.client_work.specs.Session.{Acting}
 use Rattle.history.specs.Audited.{Audited}
 use Rattle.session_notes.specs.declared.notebook.Notebook.{Notebook}
 
--- clients are 1 to this number
-abbrev pub last_client : ℕ
-last_client = 64
-
 -- its sessions by their numbers, what was seen to commit and to be applied, whether a look failed, and what is kept of each session for the choice
 -- of its checkpoints
 pub record World : Type 0 where

@@ -1,5 +1,6 @@
 -- What the bytes of each object and of each queue spell.
 use Rattle.std.specs.Prelude.{ℕ, ◌≡◌, ◌+◌, ◌-◌, ◌*◌, ◌<◌, ◌≤◌, ◌⊎◌, List, length, Some, None}
+use Rattle.db_base.specs.Limits.{most_changes}
 use Rattle.db_base.specs.declared.names.ObjName.{ObjName}
 use Rattle.db_base.specs.declared.names.ObjName.TheVariants as object
 use Rattle.db_base.specs.declared.names.QueueName.{QueueName}
@@ -29,7 +30,7 @@ IsNode bytes (Branch n) = IsInner bytes n
 -- a head counts no further than so many heads do: each raises the epoch by at most one, and the counter of a queue by at most 200
 pub record CountsWithin (n : ℕ) (h : Head) : Type 0 where
   pub epoch : h.epoch ≤ n
-  pub numbers : (tree page : ℕ) → number_of_queue h.counters tree page ≤ 200 * n
+  pub numbers : (tree page : ℕ) → number_of_queue h.counters tree page ≤ most_changes * n
 
 -- bytes are the version of this number of an object; a head has no number, and counts within it
 abbrev pub IsNth : ObjName → ℕ → List ℕ → Type 0

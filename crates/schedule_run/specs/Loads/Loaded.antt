@@ -1,6 +1,7 @@
 -- What a load of a dump leaves in a cloud.
 use Rattle.std.specs.Prelude.{ℕ, zero, suc, ◌≡◌, ◌+◌, ◌/◌, ◌%◌, List, [], ◌∷◌, Some, slice_get}
 use Rattle.cloud_facts.specs.Words.{IsClient, IsTree, AtomicRec, Head, Version, Posted, CloudState}
+use Rattle.db_base.specs.Limits.{most_changes}
 use Rattle.db_base.specs.declared.names.ObjName.TheVariants.{Head as HeadName}
 use Rattle.db_base.specs.declared.names.QueueName.TheVariants.{Atomic}
 use Rattle.dump_text.specs.Maps.{contents_of}
@@ -49,8 +50,8 @@ pub record IsCommittedMessage (t : CloudState) (client place : ℕ) (r : AtomicR
 
 -- it inserts the record at a place of those that are loaded, of which each transaction takes the next 200
 pub record Loads (place : ℕ) (p : Placed) (r : AtomicRec) : Type 0 where
-  pub txn : r.txn ≡ place / 200 + 1
-  pub index : r.index ≡ place % 200 + 1
+  pub txn : r.txn ≡ place / most_changes + 1
+  pub index : r.index ≡ place % most_changes + 1
   pub tree : r.tree ≡ p.tree
   pub change : r.change ≡ insert_of p.stored
 

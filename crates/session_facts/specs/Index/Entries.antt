@@ -3,6 +3,7 @@ use Rattle.std.specs.Prelude.{ℕ, ◌≡◌, ◌<◌, ◌≤◌, List, length, 
 use Rattle.cloud_facts.specs.Words.{Entry, CloudState, IsIn}
 use Rattle.db_base.specs.Entry.{entry_bytes, index_insert}
 use Rattle.db_base.specs.Ids.{index_of}
+use Rattle.db_base.specs.Limits.{longest_key}
 use Rattle.db_base.specs.Value.{Value}
 use Rattle.db_base.specs.declared.change.Change.TheVariants.{Insert, Delete}
 use Rattle.history.specs.Fold.{fold, of_tree}
@@ -33,6 +34,6 @@ pub record IsWholeOrder (committed : List Entry) (t : CloudState) (tree : ℕ) (
 -- the index of a tree has the entry of an attribute and a key; both the key and the entry are keys
 pub record HasEntry (t : CloudState) (tree : ℕ) (attr key : List ℕ) : Type 0 where
   pub some : 0 < length key
-  pub short : length (entry_bytes attr key) ≤ 64
+  pub short : length (entry_bytes attr key) ≤ longest_key
   pub value : Value
   pub found : Finds t (index_of tree) (entry_bytes attr key) (Some value)

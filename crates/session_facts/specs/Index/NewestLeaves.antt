@@ -2,6 +2,7 @@
 use Rattle.std.specs.Prelude.{ℕ, ◌≡◌, ◌≤◌, true, List, None}
 use Rattle.cloud_facts.specs.Words.{Entry, Leaf, CloudState, IsIn}
 use Rattle.db_base.specs.Change.{key_of}
+use Rattle.db_base.specs.Limits.{last_client}
 use Rattle.head_codec.specs.declared.lists.Pending.{Pending}
 use Rattle.history.specs.Fold.{of_tree}
 use Rattle.leaf_view.specs.Fits.{Ascend}
@@ -14,7 +15,7 @@ use Rattle.world_audit.specs.Counts.{heads_upto, AreWaiting}
 
 -- these entries are all applied in a tree, by the two numbers that its report shows: no newest head is open with one of them, and no message waits
 pub record IsAllApplied (committed : List Entry) (t : CloudState) (tree : ℕ) : Type 0 where
-  pub heads : heads_upto t tree (of_tree tree committed) 64 ≡ 0
+  pub heads : heads_upto t tree (of_tree tree committed) last_client ≡ 0
   pub messages : AreWaiting t tree 0
 
 -- a pending entry of the client is applied in a leaf

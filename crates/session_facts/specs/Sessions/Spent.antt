@@ -3,6 +3,7 @@ use Rattle.std.specs.Prelude.{ℕ, ◌≡◌, ◌<◌, ◌≤◌, ◌⊎◌, ◌
 use Rattle.std.specs.Option.{option_and_then}
 use Rattle.cloud_facts.specs.Words.{Head, Leaf, Tree, Version, CloudState, Node, Leafy, IsIn, nodes_of, roots_of}
 use Rattle.cloud_facts.specs.Book.Tally.{version_of}
+use Rattle.db_base.specs.Limits.{most_changes}
 use Rattle.db_base.specs.declared.names.ObjName.TheVariants as object
 use Rattle.db_base.specs.declared.names.QueueName.TheVariants.{TreePu}
 use Rattle.db_base.specs.declared.trouble.Counter.{Counter}
@@ -44,7 +45,7 @@ pub record HasLastNumber (t : CloudState) : Type 0 where
   pub reads : option_and_then head_of version.bytes ≡ Some head
   pub tree : ℕ
   pub page : ℕ
-  pub last : 2 ^ 64 - 1 < number_of_queue head.counters tree page + 200
+  pub last : 2 ^ 64 - 1 < number_of_queue head.counters tree page + most_changes
 
 -- ---- numbers of pages
 

@@ -3,6 +3,7 @@ use Rattle.std.specs.Prelude.{ℕ, zero, suc, ◌≡◌, ◌+◌, ◌-◌, ◌*�
 use Rattle.cloud_facts.specs.Book.Telling.{head_in, last_or}
 use Rattle.cloud_facts.specs.Words.{IsTree, QueueName, Head, CloudState}
 use Rattle.db_base.specs.Ids.{IsPage}
+use Rattle.db_base.specs.Limits.{last_client}
 use Rattle.db_base.specs.declared.names.ObjName.TheVariants as object
 use Rattle.db_base.specs.declared.names.QueueName.TheVariants as queue
 use Rattle.head_codec.specs.Head.{empty_head}
@@ -67,7 +68,7 @@ AreAllLeafPages s leaves = (tree : ℕ) → IsTree tree → AreLeafPages s tree 
 -- eight calls for each of 64 clients and what their messages and records need, and what the queues of 16 trees and of all their leaves need
 abbrev pub most_calls : CloudState → CloudState → (ℕ → List ℕ) → ℕ
 most_calls before after leaves =
-    64 * 8 + sum_upto (client_calls before) 64 + sum_upto (λ tree. tree_calls (to_settle before after) (next_page after tree - 1) tree (leaves tree)) 16
+    last_client * 8 + sum_upto (client_calls before) last_client + sum_upto (λ tree. tree_calls (to_settle before after) (next_page after tree - 1) tree (leaves tree)) 16
 
 -- each tree has one list of leaf pages at the end, and so many calls are no more than the most by these
 pub record SettlesWithin (before after : CloudState) (calls : ℕ) : Type 0 where

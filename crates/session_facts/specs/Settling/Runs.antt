@@ -8,6 +8,7 @@ use Rattle.cloud_facts.specs.Book.Tally.{right_of}
 use Rattle.cloud_facts.specs.Chains.Links.{newest_node}
 use Rattle.cloud_trait.specs.declared.message.Message.{Message}
 use Rattle.cloud_trait.specs.Delivery.{unmarked, IsDelivering}
+use Rattle.db_base.specs.Limits.{most_received}
 use Rattle.db_base.specs.declared.names.QueueName.TheVariants as queue
 use Rattle.head_codec.specs.declared.head.Phase.TheVariants.{Settled}
 use Rattle.page_ckpt.specs.Paging.{Paging}
@@ -34,7 +35,7 @@ waiting s q = unmarked (s.messages q)
 -- the first 256 unmarked messages of a queue were received, and exactly these are marked then
 pub record Drains (q : QueueName) (received : List ℕ) (first last : CloudState) : Type 0 where
   pub messages : List Message
-  pub delivered : IsDelivering (first.messages q) 256 messages
+  pub delivered : IsDelivering (first.messages q) most_received messages
   pub told : received ≡ ids_of messages
   pub kept : (m : Message) → IsIn (waiting last q) m → IsIn (waiting first q) m × (IsIn received m.id → ⊥)
   pub count : length (waiting last q) + length received ≡ length (waiting first q)

@@ -1,5 +1,6 @@
 -- What a look-up beside a cache knows of a cloud, and where its turns lead.
 use Rattle.std.specs.Prelude.{ℕ, ◌≤◌}
+use Rattle.db_base.specs.Limits.{last_indexed}
 use Rattle.attr_index.specs.Look.{Look}
 use Rattle.cloud_facts.specs.Words.{Trouble, Next, Goes, Ends, Stops, Store}
 use Rattle.page_cache.specs.Cache.{Cache}
@@ -9,7 +10,7 @@ use Rattle.session_facts.specs.Machines.Walks.Knows.{KnowsWalk}
 -- a tree that has an index, which is a tree as well
 pub record IsIndexed (tree : ℕ) : Type 0 where
   pub some : 1 ≤ tree
-  pub most : tree ≤ 8
+  pub most : tree ≤ last_indexed
 
 -- a look-up knows what its walk knows, and looks in a tree that has an index
 pub record KnowsLook (st : Store) (l : Look) : Type 0 where

@@ -3,6 +3,7 @@ use Rattle.std.specs.Prelude.{ℕ, ◌≡◌, ◌+◌, ◌≤◌, true, length, 
 use Rattle.std.specs.List.{AllByRecursion}
 use Rattle.byte_format.specs.Order.{below_bound}
 use Rattle.cloud_facts.specs.Words.{Leaf, Inner, Answer, Ask}
+use Rattle.db_base.specs.Limits.{longest_key}
 use Rattle.db_base.specs.declared.names.ObjName.TheVariants as object
 use Rattle.leaf_view.specs.Leaf.{Entry}
 use Rattle.node_codec.specs.Inner.{inner_of}
@@ -22,7 +23,7 @@ BringsLeaf tree l c = (page : ℕ) × (got : Option (List ℕ)) × Brings (objec
 
 -- a leaf's keys are no longer than keys are
 abbrev pub AreShort : List Entry → Type 0
-AreShort es = AllByRecursion (λ (e : Entry). length e.key ≤ 64) es
+AreShort es = AllByRecursion (λ (e : Entry). length e.key ≤ longest_key) es
 
 -- what a call brought nests with each node that was got before it, below or above
 pub record NestsOver (tree : ℕ) (c : Ask × Answer) (cs : Calls) : Type 0 where

@@ -2,6 +2,7 @@
 
 ghost use Rattle.std.specs.Prelude.{◌≡◌};
 ghost use Rattle.std.specs.Int.{w8, w16};
+ghost use Rattle.db_base.specs.Limits.{longest_key, longest_payload};
 ghost use Rattle.byte_format.specs.Format.{text_at};
 ghost use Rattle.byte_format.specs.Gives.{GivesOwned};
 ghost use Rattle.change_codec.specs.Change.{change_at};
@@ -15,7 +16,7 @@ use std::alloc::Global;
 
 /// The key at the front of bytes, behind its length, and the bytes behind it.
 fn key_at(alloc: Global, bytes: &[u8]) -> Result<(Key, &[u8]), ReadFault>
-    ensures { GivesOwned (λ x. (x.0, x.1.now)) result (text_at w8 1 64 bytes.now) }
+    ensures { GivesOwned (λ x. (x.0, x.1.now)) result (text_at w8 1 longest_key bytes.now) }
 {
     let (text, rest) = text8_at(bytes, 1, 64)?;
     match Key::new(alloc, text) {
@@ -27,7 +28,7 @@ fn key_at(alloc: Global, bytes: &[u8]) -> Result<(Key, &[u8]), ReadFault>
 
 /// The payload at the front of bytes, behind its length, and the bytes behind it.
 fn payload_at(alloc: Global, bytes: &[u8]) -> Result<(Payload, &[u8]), ReadFault>
-    ensures { GivesOwned (λ x. (x.0, x.1.now)) result (text_at w16 0 1024 bytes.now) }
+    ensures { GivesOwned (λ x. (x.0, x.1.now)) result (text_at w16 0 longest_payload bytes.now) }
 {
     let (text, rest) = text16_at(bytes, 0, 1024)?;
     match Payload::new(alloc, text) {

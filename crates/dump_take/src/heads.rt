@@ -1,6 +1,7 @@
 //! Whether all heads rest.
 
 ghost use Rattle.std.specs.Prelude.{◌≡◌, OnOk, IfErr};
+ghost use Rattle.db_base.specs.Limits.{last_client};
 ghost use Rattle.db_base.specs.declared.trouble.Trouble.TheVariants.{Failed};
 ghost use Rattle.world_audit.specs.Look.{Looked};
 ghost use Rattle.dump_take.specs.declared.stop.DumpStop.TheVariants as stop;
@@ -39,7 +40,7 @@ fn check_head(alloc: Global, client: ClientId, bytes: &Option<Blob>) -> Result<(
 pub(crate) fn check_heads<C: Bench>(alloc: Global, cloud: &mut C) -> Result<(), DumpStop>
     ensures looked { Looked (C.seen cloud.old) (C.seen cloud.new) }
     ensures failed { StopsDark result (C.seen cloud.old) (C.seen cloud.new) }
-    ensures found { Sees (C.seen cloud.old) (heads_to 64) no_queue (HeadsFound result) }
+    ensures found { Sees (C.seen cloud.old) (heads_to last_client) no_queue (HeadsFound result) }
 {
     for number in 0..64u64 {
         let Ok(client) = ClientId::new(number + 1) else {

@@ -1,6 +1,7 @@
 //! What a load looks at before it opens a session.
 
 ghost use Rattle.std.specs.Prelude.{◌≡◌, ◌⊎◌, [], ◌∷◌, map};
+ghost use Rattle.db_base.specs.Limits.{last_client, last_tree};
 ghost use Rattle.db_base.specs.declared.names.ObjName.TheVariants.{Head};
 ghost use Rattle.reply_text.specs.Name.{object_word};
 ghost use Rattle.load_plan.specs.FirstLook.{LooksAt, first_names, numbers, tree_names};
@@ -34,7 +35,7 @@ pub fn look_first<C: Bench>(alloc: Global, cloud: &mut C) -> Result<(), LookStop
 
 /// Looks at all heads.
 fn look_at_heads<C: Bench>(alloc: Global, cloud: &mut C) -> Result<(), LookStop>
-    ensures { LooksAt (map Head (numbers 1 64)) result (C.seen cloud.old) (C.seen cloud.new) }
+    ensures { LooksAt (map Head (numbers 1 last_client)) result (C.seen cloud.old) (C.seen cloud.new) }
 {
     for number in 0..64u64 {
         let Ok(client) = ClientId::new(number + 1) else {
@@ -47,7 +48,7 @@ fn look_at_heads<C: Bench>(alloc: Global, cloud: &mut C) -> Result<(), LookStop>
 
 /// Looks at the object and at the page 1 of each tree.
 fn look_at_trees<C: Bench>(alloc: Global, cloud: &mut C) -> Result<(), LookStop>
-    ensures { LooksAt (tree_names (numbers 1 16)) result (C.seen cloud.old) (C.seen cloud.new) }
+    ensures { LooksAt (tree_names (numbers 1 last_tree)) result (C.seen cloud.old) (C.seen cloud.new) }
 {
     for number in 0..16u64 {
         let Ok(tree) = TreeId::new(number + 1) else {

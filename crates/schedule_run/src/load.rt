@@ -156,7 +156,7 @@ fn commit_part<S: SessionCalls, C: Bench>(
     cloud: &mut C,
     left: &mut Remaining<'_>,
 ) -> Result<(), LoadStop>
-    ensures went { GoesThrough (part_events (take 200 left.old)) result
+    ensures went { GoesThrough (part_events (take most_changes left.old)) result
         (C.seen cloud.old) (C.seen cloud.new) play.old play.new }
     ensures left { OnOk result (left.new ≡ drop most_changes left.old) }
 {
@@ -173,7 +173,7 @@ fn note_part<S: SessionCalls, C: Bench>(
     cloud: &mut C,
     left: &mut Remaining<'_>,
 ) -> Result<(), LoadStop>
-    ensures went { GoesThrough (map insert_of (take 200 left.old)) result
+    ensures went { GoesThrough (map insert_of (take most_changes left.old)) result
         (C.seen cloud.old) (C.seen cloud.new) play.old play.new }
     ensures left { OnOk result (left.new ≡ drop most_changes left.old) }
 {
@@ -193,7 +193,7 @@ fn checkpoint_part<S: SessionCalls, C: Bench>(
     cloud: &mut C,
     part: Remaining<'_>,
 ) -> Result<(), LoadStop>
-    ensures { GoesThrough (checkpoints_of (take 200 part.entry)) result
+    ensures { GoesThrough (checkpoints_of (take most_changes part.entry)) result
         (C.seen cloud.old) (C.seen cloud.new) play.old play.new }
 {
     let mut left = part;

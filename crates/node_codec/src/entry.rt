@@ -20,6 +20,7 @@ pub(crate) struct Entry<'a> {
 
 impl<'a> Model for Entry<'a> {
     ghost use Rattle.std.specs.Prelude.{List, ℕ, ◌≤◌, length};
+    ghost use Rattle.db_base.specs.Limits.{longest_key};
 
     ghost Value = { List ℕ × ℕ };
 

@@ -1,7 +1,7 @@
 ghost use Rattle.std.specs.Prelude.{◌≡◌, ℕ, ◌≤◌, List, [], length, IfOk, IfErr, IfSome, OnOk, OnErr};
 ghost use Rattle.std.specs.Option.{option_copied};
 ghost use Rattle.std.specs.Map.{lookup, remove_entry};
-ghost use Rattle.page_cache.specs.Cache.{AreObjects, placed_in, most_kept};
+ghost use Rattle.page_cache.specs.Cache.{AreObjects, placed_in};
 ghost use Rattle.page_cache.specs.Names.{same_name};
 ghost use Rattle.page_cache.specs.Spelled.{IsSpelled};
 
@@ -30,7 +30,7 @@ impl Drop for Objects {
 impl Model for Objects {
     ghost use Rattle.std.specs.Prelude.{◌≡◌, ℕ, List, Option};
     ghost use Rattle.db_base.specs.declared.names.ObjName.{ObjName};
-    ghost use Rattle.page_cache.specs.Cache.{AreObjects};
+    ghost use Rattle.page_cache.specs.Cache.{AreObjects, most_kept};
 
     ghost Value = { List (ObjName × Option (List ℕ)) };
 

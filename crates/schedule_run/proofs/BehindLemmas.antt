@@ -114,7 +114,7 @@ settled_commits : (entries : List Entry) (posture : Posture) (work : Work) (n : 
 settled_commits entries posture work = settled_is (IsLeftReply entries posture work) (λ calls. tt) (λ k. tt)
 
 pub settles_so : (lines : List Line) (e : Event) (r : Reply) (before after : Seen) (old new : World) (t : CloudState) → before.state ≡ Some t → SomeBookStands (session_at old.sessions) t
-    → (handled : Handled (length lines + 1) e (span_of before after old new) (Ok r)) → SettlesSo lines e r before after old new handled
+    → (handled : Handled (length lines + 1) e (span_of before after old new) (Ok r)) → SettlesSo lines e r (span_of before after old new) handled
 settles_so lines event.Settle r before after old new t told stands handled =
     let right = settling_right (length lines + 1) event.Settle before after old new (Ok r) t told stands handled in (
       right.sound (standing lines 0).posture,

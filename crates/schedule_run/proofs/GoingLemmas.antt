@@ -125,7 +125,7 @@ stands_more lines line n t z old new k on grows u told stands so traced =
 
 -- the lines that were handled, with one more
 lines_more : (texts : List (List ℕ)) (text : List ℕ) (n : ℕ) (w v u : Written) (s t z : Seen) (first old new : World) (line : Line)
-    → n ≡ length texts + 1 → Handles texts (effects w s) (effects v t) first old → IsEvent text line.event → IsAnswered n line.event t z old new line.reply → Grows n t z
+    → n ≡ length texts + 1 → Handles texts (effects w s) (effects v t) first old → IsEvent text line.event → IsAnswered n line.event (span_of t z old new) line.reply → Grows n t z
     → AddsOne v u (reply_line n line.reply) → Handles (texts ++ text ∷ []) (effects w s) (effects u z) first new
 lines_more texts text n w v u s t z first old new line count h spells a grows adds =
     let m : length h.lines ≡ length texts = spelled_length texts h.lines h.spelled in
@@ -319,13 +319,13 @@ ends_before {text} {rest} {behind} {line} ended u met so = record {
 
 -- the lines with the text's own
 went_answer : {text rest behind line : List ℕ} {n m : ℕ} {w v : Written} {s t z : Seen} {first old : World}
-    → (met : IsMet text rest behind line n m w v s t z first old) (new : World) (one : Line) → IsAnswered m one.event t z old new one.reply
+    → (met : IsMet text rest behind line n m w v s t z first old) (new : World) (one : Line) → IsAnswered m one.event (span_of t z old new) one.reply
     → WentOn s first (met.is.handles.lines ++ one ∷ []) z new
 went_answer {text} {rest} {behind} {line} {n} {m} {w} {v} {s} {t} {z} {first} {old} met new one a =
     further met.is.handles.lines one t z old new met.is.handles.went (subst (λ j. Handled j one.event (span_of t z old new) (Ok one.reply)) (met_count met) a.handled)
 
 with_answer : {text rest behind line : List ℕ} {n m : ℕ} {w v : Written} {s t z : Seen} {first old : World}
-    → (met : IsMet text rest behind line n m w v s t z first old) (new : World) (one : Line) → IsAnswered m one.event t z old new one.reply
+    → (met : IsMet text rest behind line n m w v s t z first old) (new : World) (one : Line) → IsAnswered m one.event (span_of t z old new) one.reply
     → AreAnswered false (met.is.handles.lines ++ one ∷ []) s z
 with_answer {text} {rest} {behind} {line} {n} {m} {w} {v} {s} {t} {z} {first} {old} met new one a =
     let went : WentOn s first (met.is.handles.lines ++ one ∷ []) z new = went_answer met new one a in
@@ -347,7 +347,7 @@ with_answer {text} {rest} {behind} {line} {n} {m} {w} {v} {s} {t} {z} {first} {o
 -- the run ends behind a text that has a reply
 ends_behind : {text rest behind line : List ℕ} {n m : ℕ} {w v : Written} {s t z : Seen} {first old : World}
     → (ended : Result (Unit {0}) LineFault) (u : Written) (new : World) (one : Line) → (met : IsMet text rest behind line n m w v s t z first old)
-    → IsEvent line one.event → IsAnswered m one.event t z old new one.reply
+    → IsEvent line one.event → IsAnswered m one.event (span_of t z old new) one.reply
     → Ended ended (met.is.handles.lines ++ one ∷ []) (lines_of behind) (effects w s) (effects u z) → WentThrough text ended (effects w s) (effects u z)
 ends_behind {text} {rest} {behind} {line} {n} {m} {w} {v} {s} {t} {z} {first} {old} ended u new one met spells a so =
     let h = met.is.handles in

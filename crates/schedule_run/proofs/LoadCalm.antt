@@ -181,7 +181,7 @@ module _ (s : Seen) (first : World) (x : CloudState) (fresh : IsNew true first) 
 
   -- a line of session 1 behind them is answered well, and so is the settling
   answered_well : (lines : List Line) (line : Line) (t : Seen) (behind : Behind s first lines t) → LinesOne lines → IsOfLoad line.event → (z : Seen) (new : World)
-      → (handled : Handled (length lines + 1) line.event (span_of t z behind.world new) (Ok line.reply)) → IsExplained lines line t z behind.world new handled
+      → (handled : Handled (length lines + 1) line.event (span_of t z behind.world new) (Ok line.reply)) → IsExplained lines line (span_of t z behind.world new) handled
       → EachStep StepIsCalm (length lines + 1) line.event (span_of t z behind.world new) (Ok line.reply) handled → (u : CloudState) → z.state ≡ Some u
       → RepliesWell u line.event (standing lines (session_of line.event)).posture line.reply
   answered_well lines line t behind ones own z new handled explained calm u seen = on own

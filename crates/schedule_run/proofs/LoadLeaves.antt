@@ -118,7 +118,7 @@ record LastLine (lines : List Line) (line : Line) (before : Seen) (old : World) 
   world : World
   went : WentOn before old lines mid world
   handled : Handled (length lines + 1) line.event (span_of mid after world new) (Ok line.reply)
-  explained : IsExplained lines line mid after world new handled
+  explained : IsExplained lines line (span_of mid after world new) handled
 
 last_line : (before : Seen) (old : World) (all : List Line) (after : Seen) (new : World) → (went : WentOn before old all after new) → AreExplained before old all after new went
     → (lines : List Line) (line : Line) → all ≡ lines ++ line ∷ [] → LastLine lines line before old after new

@@ -107,13 +107,13 @@ on_book lines world t stands = book_of lines (session_at world.sessions) world.a
 -- what a settling among them left, and how it ended
 pub leaves_so : (n : ℕ) (e : Event) (before after : Seen) (old new : World) (r : Reply) → SettlingLeaves n e (span_of before after old new) (Ok r)
     → (t : CloudState) → before.state ≡ Some t → SomeBookStands (session_at old.sessions) t → (handled : Handled n e (span_of before after old new) (Ok r))
-    → LeavesSo n e before after old new r handled
+    → LeavesSo n e (span_of before after old new) r handled
 leaves_so n event.Settle before after old new (reply.Settled calls) law t told stands handled = law t told stands handled
 leaves_so n e before after old new r law t told stands handled = tt
 
 ends_here : (n : ℕ) (e : Event) (before after : Seen) (old new : World) (r : Reply) → SettlingEnds n e (span_of before after old new) (Ok r)
     → (t : CloudState) → before.state ≡ Some t → SomeBookStands (session_at old.sessions) t → (handled : Handled n e (span_of before after old new) (Ok r))
-    → EndsSo t n e before after old new r handled
+    → EndsSo t n e (span_of before after old new) r handled
 ends_here n event.Settle before after old new r law t told stands handled = λ free each. law t told stands free handled each
 ends_here n e before after old new r law t told stands handled = tt
 
@@ -122,9 +122,9 @@ same_some x y e = cc
 
 pub ends_so : (n : ℕ) (e : Event) (before after : Seen) (old new : World) (r : Reply) → SettlingEnds n e (span_of before after old new) (Ok r)
     → (t : CloudState) → before.state ≡ Some t → SomeBookStands (session_at old.sessions) t → (handled : Handled n e (span_of before after old new) (Ok r))
-    → (s : CloudState) → before.state ≡ Some s → EndsSo s n e before after old new r handled
+    → (s : CloudState) → before.state ≡ Some s → EndsSo s n e (span_of before after old new) r handled
 ends_so n e before after old new r law t told stands handled s seen =
-    subst (λ x. EndsSo x n e before after old new r handled) (same_some t s (sym told ∙ seen)) (ends_here n e before after old new r law t told stands handled)
+    subst (λ x. EndsSo x n e (span_of before after old new) r handled) (same_some t s (sym told ∙ seen)) (ends_here n e before after old new r law t told stands handled)
 
 -- a session that was untroubled as a cloud told before a line is so behind it, and the line is answered well
 abbrev IsWellFrom : List Line → Line → World → World → CloudState → CloudState → Type 0
@@ -210,7 +210,7 @@ record IsAloneBehind (session k : ℕ) (lines : List Line) (world : World) (t : 
   same : stage_of session k (map unpassed lines) ≡ stage_of session k lines
 
 alone_behind : (before : Seen) (old : World) (t : CloudState) (lines : List Line) (after : Seen) (new : World) → (went : WentOn before old lines after new) → before.state ≡ Some t
-    → WorldStands [] old t → (session k : ℕ) → IsAloneIn session old t → GoAlone session before old lines after new went → (u : CloudState) → after.state ≡ Some u
+    → WorldStands [] old t → (session k : ℕ) → IsAloneIn session old t → GoAlone session went → (u : CloudState) → after.state ≡ Some u
     → IsAloneBehind session k lines new u
 alone_behind before old t lines after new start told stands session k free alone u seen =
     record { alone = subst (λ (x : CloudState). IsAloneIn session old x) (same_some t u (sym told ∙ seen)) free; sent = tt; meters = tt; few = tt; same = refl }

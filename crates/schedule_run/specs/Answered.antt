@@ -44,7 +44,7 @@ use Rattle.world_core.specs.Spared.{StepSpendsNone, unpassed}
 use Rattle.world_core.specs.Stands.{LeftIsRight}
 use Rattle.world_core.specs.UnsentPages.{LeavesUnsent}
 use Rattle.world_core.specs.Writers.{stage_of}
-use Rattle.world_core.specs.Span.{span_of}
+use Rattle.world_core.specs.Span.{Span, span_of}
 
 -- a world whose sessions are closed, and that saw nothing; blind where it looks at no put
 pub record IsNew (blind : Bool) (world : World) : Type 0 where
@@ -61,15 +61,14 @@ pub data WentOn (before : Seen) (old : World) : List Line → Seen → World →
       → WentOn before old (lines ++ line ∷ []) after new
 
 -- a settling that came to its end leaves nothing, where in no step of it a message was withheld
-abbrev pub LeavesSo : (n : ℕ) (event : Event) (before after : Seen) (old new : World) (r : Reply) → Handled n event (span_of before after old new) (Ok r) → Type 0
-LeavesSo n event.Settle before after old new (reply.Settled calls) handled = SettledLeaves n calls (span_of before after old new) handled
-LeavesSo n event before after old new r handled = Unit {0}
+abbrev pub LeavesSo : (n : ℕ) (event : Event) (span : Span) (r : Reply) → Handled n event span (Ok r) → Type 0
+LeavesSo n event.Settle span (reply.Settled calls) handled = SettledLeaves n calls span handled
+LeavesSo n event span r handled = Unit {0}
 
 -- where no lock was held before it and every step of it went well, a settling came to its end so, within the bound
-abbrev pub EndsSo : CloudState → (n : ℕ) (event : Event) (before after : Seen) (old new : World) (r : Reply) → Handled n event (span_of before after old new) (Ok r) → Type 0
-EndsSo t n event.Settle before after old new r handled =
-    NoLockHeld t → EachStep StepGoesWell n event.Settle (span_of before after old new) (Ok r) handled → AnswersSettled t after r
-EndsSo t n event before after old new r handled = Unit {0}
+abbrev pub EndsSo : CloudState → (n : ℕ) (event : Event) (span : Span) (r : Reply) → Handled n event span (Ok r) → Type 0
+EndsSo t n event.Settle span r handled = NoLockHeld t → EachStep StepGoesWell n event.Settle span (Ok r) handled → AnswersSettled t span.after r
+EndsSo t n event span r handled = Unit {0}
 
 -- where the reply to a line says that a commit committed, each change on which its session stood by the lines before it is among the entries
 abbrev pub IsKeptLine : List Entry → List Line → Line → Type 0
@@ -81,30 +80,30 @@ IsKeptLine entries before line = IsKeptReply entries (standing before (session_o
 -- leaves nothing and comes to its end so;
 -- a commit that it answers as committed is among what was committed, and of one that it answers as not committed nothing is; the two numbers of a
 -- report count what is left then; and a read, a scan and a look-up show what their own calls served, by what the lines say of the client
-pub record IsExplained (lines : List Line) (line : Line) (before after : Seen) (old new : World) (handled : Handled (length lines + 1) line.event (span_of before after old new) (Ok line.reply))
-    : Type 0 where
-  pub explains : EachStep StepExplains (length lines + 1) line.event (span_of before after old new) (Ok line.reply) handled
-  pub calm : EachStep StepIsCalm (length lines + 1) line.event (span_of before after old new) (Ok line.reply) handled → (t u : CloudState)
-      → before.state ≡ Some t → after.state ≡ Some u → IsUntroubled t (work_at old (session_of line.event))
-      → IsUntroubled u (work_at new (session_of line.event)) × RepliesWell u line.event (standing lines (session_of line.event)).posture line.reply
-      × LeavesUnsent line.event (standing lines (session_of line.event)).posture (hand_at t old (session_of line.event)) (hand_at u new (session_of line.event)) line.reply
-  pub passed : EachStep StepIsCalm (length lines + 1) line.event (span_of before after old new) (Ok line.reply) handled
-      → AskedPassed (length lines + 1) handled.asked (span_of before after old new) (Ok line.reply) handled.answers
-  pub bounded : AnswersSoon lines (length lines + 1) handled.asked (span_of before after old new) (Ok line.reply) handled.answers
-  pub names : NamesAt (length lines + 1) handled.asked (span_of before after old new) (Ok line.reply) handled.answers
-  pub leaves : LeavesSo (length lines + 1) line.event before after old new line.reply handled
-  pub ends : (t : CloudState) → before.state ≡ Some t → EndsSo t (length lines + 1) line.event before after old new line.reply handled
-  pub kept : (u : CloudState) → after.state ≡ Some u → IsKeptLine (committed (lines ++ line ∷ []) u) lines line
-  pub left_none : (u : CloudState) → after.state ≡ Some u
-      → IsLeftReply (committed (lines ++ line ∷ []) u) (standing lines (session_of line.event)).posture (session_at new.sessions (session_of line.event)).work line.reply
-  pub left : (u : CloudState) → after.state ≡ Some u → LeftIsRight u line.reply
-  pub shows : EachStep StepShows (length lines + 1) line.event (span_of before after old new) (Ok line.reply) handled
-  pub shows_by : EachStep (StepShowsBy lines) (length lines + 1) line.event (span_of before after old new) (Ok line.reply) handled
+pub record IsExplained (lines : List Line) (line : Line) (span : Span) (handled : Handled (length lines + 1) line.event span (Ok line.reply)) : Type 0 where
+  pub explains : EachStep StepExplains (length lines + 1) line.event span (Ok line.reply) handled
+  pub calm : EachStep StepIsCalm (length lines + 1) line.event span (Ok line.reply) handled → (t u : CloudState)
+      → span.before.state ≡ Some t → span.after.state ≡ Some u → IsUntroubled t (work_at span.old (session_of line.event))
+      → IsUntroubled u (work_at span.new (session_of line.event)) × RepliesWell u line.event (standing lines (session_of line.event)).posture line.reply
+      × LeavesUnsent line.event (standing lines (session_of line.event)).posture (hand_at t span.old (session_of line.event)) (hand_at u span.new (session_of line.event)) line.reply
+  pub passed : EachStep StepIsCalm (length lines + 1) line.event span (Ok line.reply) handled
+      → AskedPassed (length lines + 1) handled.asked span (Ok line.reply) handled.answers
+  pub bounded : AnswersSoon lines (length lines + 1) handled.asked span (Ok line.reply) handled.answers
+  pub names : NamesAt (length lines + 1) handled.asked span (Ok line.reply) handled.answers
+  pub leaves : LeavesSo (length lines + 1) line.event span line.reply handled
+  pub ends : (t : CloudState) → span.before.state ≡ Some t → EndsSo t (length lines + 1) line.event span line.reply handled
+  pub kept : (u : CloudState) → span.after.state ≡ Some u → IsKeptLine (committed (lines ++ line ∷ []) u) lines line
+  pub left_none : (u : CloudState) → span.after.state ≡ Some u
+      → IsLeftReply (committed (lines ++ line ∷ []) u) (standing lines (session_of line.event)).posture (session_at span.new.sessions (session_of line.event)).work line.reply
+  pub left : (u : CloudState) → span.after.state ≡ Some u → LeftIsRight u line.reply
+  pub shows : EachStep StepShows (length lines + 1) line.event span (Ok line.reply) handled
+  pub shows_by : EachStep (StepShowsBy lines) (length lines + 1) line.event span (Ok line.reply) handled
 
 -- and so does each line
 abbrev pub AreExplained : (before : Seen) (old : World) (lines : List Line) (after : Seen) (new : World) → WentOn before old lines after new → Type 0
 AreExplained before old lines after new start = Unit {0}
-AreExplained before old _ after new (further lines line mid _ world _ went handled) = AreExplained before old lines mid world went × IsExplained lines line mid after world new handled
+AreExplained before old _ after new (further lines line mid _ world _ went handled) =
+    AreExplained before old lines mid world went × IsExplained lines line (span_of mid after world new) handled
 
 -- in no step of these lines a call failed, and nothing was withheld
 abbrev pub GoThrough : (before : Seen) (old : World) (lines : List Line) (after : Seen) (new : World) → WentOn before old lines after new → Type 0
@@ -120,10 +119,10 @@ LeavesFewSo before old lines after new went =
 
 -- These lines leave a session alone: only it acts, and it does not die. In no step of them a count rose or a counter was spent, each lease lasted that its
 -- call named or gave back, and memory was found.
-abbrev pub GoAlone : (session : ℕ) (before : Seen) (old : World) (lines : List Line) (after : Seen) (new : World) → WentOn before old lines after new → Type 0
-GoAlone session before old lines after new start = Unit {0}
-GoAlone session before old _ after new (further lines line mid _ world _ went handled) =
-    GoAlone session before old lines mid world went
+abbrev pub GoAlone : ℕ → {before : Seen} {old : World} {lines : List Line} {after : Seen} {new : World} → WentOn before old lines after new → Type 0
+GoAlone session start = Unit {0}
+GoAlone session (further lines line mid after world new went handled) =
+    GoAlone session went
     × LeavesAlone session line.event
     × EachStep StepIsUndisturbed (length lines + 1) line.event (span_of mid after world new) (Ok line.reply) handled
     × EachStep StepSpendsNone (length lines + 1) line.event (span_of mid after world new) (Ok line.reply) handled
@@ -131,7 +130,7 @@ GoAlone session before old _ after new (further lines line mid _ world _ went ha
 -- then a session that works as a writer of k behind each commit, whatever its works tell that they passed over, leaves few behind each of them: none was passed over
 abbrev pub LeavesFewAlone : (before : Seen) (old : World) (lines : List Line) (after : Seen) (new : World) → WentOn before old lines after new → Type 0
 LeavesFewAlone before old lines after new went =
-    (session k : ℕ) (u : CloudState) → GoAlone session before old lines after new went → after.state ≡ Some u
+    (session k : ℕ) (u : CloudState) → GoAlone session went → after.state ≡ Some u
     → (stage_of session k (map unpassed lines) ≡ stage_of session k lines) × LeavesFewAt (stage_of session k (map unpassed lines)) k u
 
 -- so it does behind each of these lines
@@ -147,16 +146,16 @@ abbrev pub IsSoundLine : List Line → Line → Type 0
 IsSoundLine before line = IsSoundFor line.event (standing before (session_of line.event)).posture line.reply
 
 -- a settling has a sound reply and explains itself; of other lines nothing is said
-abbrev pub SettlesSo : (lines : List Line) (event : Event) (r : Reply) (before after : Seen) (old new : World) → Handled (length lines + 1) event (span_of before after old new) (Ok r) → Type 0
-SettlesSo lines event.Settle r before after old new handled =
-    IsSoundLine lines (record { event = event.Settle; reply = r }) × IsExplained lines (record { event = event.Settle; reply = r }) before after old new handled
-SettlesSo lines event r before after old new handled = Unit {0}
+abbrev pub SettlesSo : (lines : List Line) (event : Event) (r : Reply) (span : Span) → Handled (length lines + 1) event span (Ok r) → Type 0
+SettlesSo lines event.Settle r span handled =
+    IsSoundLine lines (record { event = event.Settle; reply = r }) × IsExplained lines (record { event = event.Settle; reply = r }) span handled
+SettlesSo lines event r span handled = Unit {0}
 
 -- and so does each settling of these lines
 abbrev pub AreSettled : (before : Seen) (old : World) (lines : List Line) (after : Seen) (new : World) → WentOn before old lines after new → Type 0
 AreSettled before old lines after new start = Unit {0}
 AreSettled before old _ after new (further lines line mid _ world _ went handled) =
-    AreSettled before old lines mid world went × SettlesSo lines line.event line.reply mid after world new handled
+    AreSettled before old lines mid world went × SettlesSo lines line.event line.reply (span_of mid after world new) handled
 
 -- a cloud that was empty, or that earlier runs left
 abbrev pub IsOfRuns : CloudState → Type 0

@@ -14,7 +14,7 @@ use Rattle.world_core.specs.declared.world.WorldFault.{WorldFault}
 use Rattle.world_core.specs.declared.world.WorldFault.TheVariants as world
 use Rattle.world_core.specs.Handled.{Handled}
 use Rattle.world_core.specs.Stands.{WorldStands, StandsOn}
-use Rattle.world_core.specs.Span.{span_of}
+use Rattle.world_core.specs.Span.{Span, span_of}
 use Rattle.schedule_run.specs.Outside.{Effects}
 use Rattle.schedule_run.specs.declared.replay.LineFault.{LineFault}
 use Rattle.schedule_run.specs.declared.replay.LineFault.TheVariants.{BadLine, WriteFault, Memory}
@@ -99,19 +99,19 @@ pub record HasHandledLines (text rest : List ℕ) (n : ℕ) (before after : Effe
 -- ---- one line
 
 -- an event was handled and has this reply, and what stood stands with it
-pub record IsAnswered (n : ℕ) (event : Event) (start now : Seen) (old new : World) (reply : Reply) : Type 0 where
-  pub handled : Handled n event (span_of start now old new) (Ok reply)
-  pub stands : StandsOn n event (span_of start now old new) (Ok reply)
+pub record IsAnswered (n : ℕ) (event : Event) (span : Span) (reply : Reply) : Type 0 where
+  pub handled : Handled n event span (Ok reply)
+  pub stands : StandsOn n event span (Ok reply)
 
 -- what the event of a line did: its reply is written, or a part of it, or there is none
 abbrev pub LineHandled : Result (Unit {0}) LineFault → ℕ → Event → Effects × World → Effects × World → Type 0
 LineHandled (Ok done) n event (before, old) (after, new) =
-    (reply : Reply) × IsAnswered n event before.cloud after.cloud old new reply × AddsOne before.output after.output (reply_line n reply)
+    (reply : Reply) × IsAnswered n event (span_of before.cloud after.cloud old new) reply × AddsOne before.output after.output (reply_line n reply)
 LineHandled (Err BadLine) n event (before, old) (after, new) = ⊥
 LineHandled (Err WriteFault) n event (before, old) (after, new) =
-    (reply : Reply) × IsAnswered n event before.cloud after.cloud old new reply × AddsPart before.output after.output (reply_line n reply)
+    (reply : Reply) × IsAnswered n event (span_of before.cloud after.cloud old new) reply × AddsPart before.output after.output (reply_line n reply)
 LineHandled (Err Memory) n event (before, old) (after, new) =
-    ((reply : Reply) × IsAnswered n event before.cloud after.cloud old new reply × AddsPart before.output after.output (reply_line n reply))
+    ((reply : Reply) × IsAnswered n event (span_of before.cloud after.cloud old new) reply × AddsPart before.output after.output (reply_line n reply))
     ⊎ (Handled n event (span_of before.cloud after.cloud old new) (Err world.Memory) × (after.output ≡ before.output))
 
 -- what a line did whose text is in no grammar: nothing of it was handled, and its refusal is written, or a part of it

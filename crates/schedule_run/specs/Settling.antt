@@ -38,7 +38,7 @@ pub record WasSettled (reply : Reply) (start now : Seen) : Type 0 where
   pub first : World
   pub fresh : IsNew true first
   pub handled : Handled 1 Settle (span_of start now first play.world) (Ok reply)
-  pub settles : (t : CloudState) → start.state ≡ Some t → IsOfRuns t → SettlesSo [] Settle reply start now first play.world handled
+  pub settles : (t : CloudState) → start.state ≡ Some t → IsOfRuns t → SettlesSo [] Settle reply (span_of start now first play.world) handled
   pub opens : OpensNothing start now
 
 -- it is written under number 1

@@ -39,7 +39,7 @@ use Rattle.world_core.specs.declared.asked.Asked.{Asked}
 use Rattle.world_core.specs.declared.asked.Asked.TheVariants.{Session, Wait, Report, Settle, Sweep}
 use Rattle.world_core.specs.declared.asked.Request.{Request}
 use Rattle.world_core.specs.declared.asked.Request.TheVariants.{Begin, Note, Abort, Policy, Work as WorksDue, Step, Run, Crash}
-use Rattle.world_core.specs.Handled.{SetsWish, StepsLooked, Went, start as went_start, further as went_further, ComesTo, MakesStep, Runs, Crashes, SettlesOn, Settles, Does, Answers, Policies, Works, WorksThrough, checkpoint_more, no_checkpoint}
+use Rattle.world_core.specs.Handled.{SetsWish, StepsLooked, Went, start as went_start, further as went_further, ComesTo, MakesStep, Runs, Crashes, SettlesOn, Settles, Does, Answers, Policies, Works, WorksThrough, checkpoint_more, no_checkpoint, gone_through}
 use Rattle.world_core.specs.Stands.{WorldStands}
 use Rattle.world_core.specs.Span.{span_of}
 use Rattle.world_core.proofs.Acknowledged.{durable_after}
@@ -131,7 +131,7 @@ lands_come who before after old new a c =
     lands_on who.event before c.mid after (lands_went who before old c.mid c.world c.went) (lands_stepped who _ c.mid after c.world new _ c.steps)
 
 -- the checkpoints of a session's work
-lands_works : (who : Caller) (before : Seen) (old : World) (queues : List QueueName) (done passed : ℕ) (after : Seen) (new : World) → Works who before old queues done passed after new
+lands_works : (who : Caller) (before : Seen) (old : World) (queues : List QueueName) (done passed : ℕ) (after : Seen) (new : World) → Works who before old (gone_through queues done passed) after new
     → Lands who.event before after
 lands_works who before old queues done passed after new no_checkpoint = lands_same who.event before before refl
 lands_works who before old queues done passed after new (checkpoint_more others kept left mid world queue a _ _ works makes passes) =

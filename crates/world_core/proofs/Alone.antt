@@ -28,7 +28,7 @@ use Rattle.world_core.specs.Alone.{IsAloneIn, KeepsAlone, LeavesAlone, StepIsUnd
 use Rattle.world_core.specs.Asked.{Asks, IsFolding, IsLookingUp, IsNoted, IsOpening, IsPaging, IsReading, IsScanning, IsStep, OfSession, noting_of}
 use Rattle.world_core.specs.Calm.{StepIsCalm, work_at}
 use Rattle.world_core.specs.EachStep.{EachAsked, EachCome, EachDone, EachMade, EachRun, EachThrough, EachWent, EachWork, StepFact}
-use Rattle.world_core.specs.Handled.{Answers, BeginsCheckpoint, BeginsOp, ComesTo, Declines, Does, DropsChanges, MakesStep, NotesChange, Policies, Runs, StepsLooked, Went, Works, WorksThrough, checkpoint_more, checkpoint_of, further, no_checkpoint, start}
+use Rattle.world_core.specs.Handled.{Answers, BeginsCheckpoint, BeginsOp, ComesTo, Declines, Does, DropsChanges, MakesStep, NotesChange, Policies, Runs, StepsLooked, Went, Works, WorksThrough, checkpoint_more, checkpoint_of, further, no_checkpoint, start, gone_through}
 use Rattle.world_core.specs.Sessions.{AbortsIn, Changes, NotesIn}
 use Rattle.world_core.specs.World.{World}
 use Rattle.world_core.specs.declared.asked.Asked.{Asked}
@@ -126,7 +126,7 @@ module _ (who : Caller) where
         (subst (λ (a : Acting). IsAlone a.work h.state) (changed_was who.session _ old.sessions begun.sessions b.session) h.alone));
   }
 
-  works_alone : (before : Seen) (old : World) (queues : List QueueName) (done passed : ℕ) (after : Seen) (new : World) → (works : Works who before old queues done passed after new)
+  works_alone : (before : Seen) (old : World) (queues : List QueueName) (done passed : ℕ) (after : Seen) (new : World) → (works : Works who before old (gone_through queues done passed) after new)
       → EachWork StepGoesAlone works → EachWork StepIsUndisturbed works
       → IsAloneSeen who.session old before → EachWork StepIsCalm works × IsAloneSeen who.session new after
   works_alone before old queues done passed after new no_checkpoint goes undisturbed h = (tt, h)

@@ -26,7 +26,7 @@ use Rattle.world_core.specs.declared.asked.Request.TheVariants.{Begin, Note, Abo
 use Rattle.world_core.specs.World.{World}
 use Rattle.world_core.specs.declared.world.WorldFault.{WorldFault}
 use Rattle.world_core.specs.Bounded.{steps_of, WereFew, WasSoon, StepsSoon, CameSoon, RanSoon, RunsSoon, CrashesSoon, EachSoon, WorksSoon, calls_of, DoesSoon, ServesSoon, AnswersSoon, MakesFewCalls}
-use Rattle.world_core.specs.Handled.{StepsLooked, StepsTo, MakesStep, ComesTo, RunsTo, Runs, Crashes, Does, Serves, Answers, Checkpoints, Works, WorksThrough, checkpoint_more, no_checkpoint}
+use Rattle.world_core.specs.Handled.{StepsLooked, StepsTo, MakesStep, ComesTo, RunsTo, Runs, Crashes, Does, Serves, Answers, Checkpoints, Works, WorksThrough, checkpoint_more, no_checkpoint, gone_through}
 use Rattle.world_core.specs.Stands.{WorldStands}
 use Rattle.world_core.specs.Span.{span_of}
 use Rattle.std.proofs.lemmas.Option.{same_Some}
@@ -100,7 +100,7 @@ module _ (lines : List Line) (n : ℕ) (before after : Seen) (old new : World) (
           (worker_went n k all_lines home row first (calls_told lines) from c.begun c.comes.mid c.comes.world begun held none c.comes.went gone.state gone.told) last seen
 
       each_soon : (from : Seen) (world : World) (queues : List QueueName) (done passed : ℕ) (to : Seen) (left : World) → IsBetween k home first world → (h : HoldsWithin n all_lines world from)
-          → (mine : ℕ) → CountsAll (at k mine (calls_told lines)) h.state (session_at world.sessions) → (works : Works (worker k n) from world queues done passed to left)
+          → (mine : ℕ) → CountsAll (at k mine (calls_told lines)) h.state (session_at world.sessions) → (works : Works (worker k n) from world (gone_through queues done passed) to left)
           → EachSoon works
       each_soon from world queues done passed to left w h mine counts no_checkpoint = tt
       each_soon from world queues done passed to left w h mine counts (checkpoint_more others kept passes_by mid prior queue a _ _ works makes passes) =

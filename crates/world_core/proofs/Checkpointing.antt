@@ -32,7 +32,7 @@ use Rattle.world_core.specs.declared.put.Put.{Put}
 use Rattle.world_core.specs.Put.{put_of, put_of_hand}
 use Rattle.world_core.specs.Sessions.{Changes, HasPut, IsAtWork}
 use Rattle.world_core.specs.Stands.{Grows}
-use Rattle.world_core.specs.Handled.{BeginsCheckpoint, ComesTo, IsOpen, FallsShort, MakesOne, NotesCall, NotesEnd, NotesStep, SetsWish, StepsLooked, Works, no_checkpoint, checkpoint_more, as_one, checkpoint_of, done_by, is_done, note_of_hand}
+use Rattle.world_core.specs.Handled.{BeginsCheckpoint, ComesTo, IsOpen, FallsShort, MakesOne, NotesCall, NotesEnd, NotesStep, SetsWish, StepsLooked, Works, no_checkpoint, checkpoint_more, as_one, checkpoint_of, done_by, is_done, note_of_hand, gone_through}
 use Rattle.world_core.specs.Span.{span_of}
 use Rattle.world_core.proofs.Going.{after_there, put_before, same_session}
 use Rattle.world_core.proofs.GrowthLemmas.{grows_between}
@@ -149,7 +149,7 @@ stays_open who queue done before after old new opened m =
 pub record IsGoing (who : Caller) (queues left : List QueueName) (most done passed : ℕ) (before after : Seen) (old new : World) : Type 0 where
   pub gone : List QueueName
   pub whole : queues ≡ gone ++ left
-  pub works : Works who before old gone done passed after new
+  pub works : Works who before old (gone_through gone done passed) after new
   pub opened : IsOpen who.session new.sessions
   pub pending : All IsPending left
   pub done_most : done + length left ≤ most
@@ -173,8 +173,8 @@ pub going_more : (who : Caller) (queues left rest : List QueueName) (queue : Que
 going_more who queues left rest queue most done passed done_after passed_after kept before mid after old world new is g m d p = record {
   gone = g.gone ++ queue ∷ [];
   whole = g.whole ∙ ap (λ l. g.gone ++ l) is ∙ sym (append_assoc g.gone (queue ∷ []) rest);
-  works = subst (λ j. Works who before old (g.gone ++ queue ∷ []) j passed_after after new) (sym (d ∙ ap (λ i. done + i) (sym m.kept)))
-      (subst (λ j. Works who before old (g.gone ++ queue ∷ []) (done + done_by m.answer) j after new) (sym (p ∙ ap (λ i. passed + i) (sym m.passed)))
+  works = subst (λ j. Works who before old (gone_through (g.gone ++ queue ∷ []) j passed_after) after new) (sym (d ∙ ap (λ i. done + i) (sym m.kept)))
+      (subst (λ j. Works who before old (gone_through (g.gone ++ queue ∷ []) (done + done_by m.answer) j) after new) (sym (p ∙ ap (λ i. passed + i) (sym m.passed)))
       (checkpoint_more g.gone done passed mid world queue m.answer after new g.works m.makes m.passes));
   opened = stays_open who queue kept mid after world new g.opened m;
   pending = All-tail IsPending queue rest (subst (All IsPending) is g.pending);

@@ -51,7 +51,7 @@ use Rattle.world_core.proofs.Errands.{IsRightErrand}
 use Rattle.world_core.proofs.Texts.{errand_is}
 use Rattle.world_core.specs.Asked.{Asks}
 use Rattle.world_core.specs.Bounded.{steps_of}
-use Rattle.world_core.specs.Handled.{Declines, Has, MakesNoCall, BeginsOp, NotesChange, DropsChanges, StepsLooked, MakesStep, Went, start, further, ComesTo, Runs, SettlesOn, Settles, Dies, Crashes, Does, Serves, ReportReply, Reports, Answers, Handled, BeginsCheckpoint, Checkpoints, Policies, Works, WorksThrough, checkpoint_more, checkpoint_of, no_checkpoint}
+use Rattle.world_core.specs.Handled.{Declines, Has, MakesNoCall, BeginsOp, NotesChange, DropsChanges, StepsLooked, MakesStep, Went, start, further, ComesTo, Runs, SettlesOn, Settles, Dies, Crashes, Does, Serves, ReportReply, Reports, Answers, Handled, BeginsCheckpoint, Checkpoints, Policies, Works, WorksThrough, checkpoint_more, checkpoint_of, no_checkpoint, gone_through}
 use Rattle.world_core.specs.Named.{StepNames}
 use Rattle.world_core.specs.Replying.{declined, done_reply, RepliesBegun, RepliesTurn, RepliesFor}
 use Rattle.world_core.specs.Sessions.{Changes, NotesIn, AbortsIn}
@@ -454,7 +454,7 @@ module _ (n k : ℕ) (lines : List Line) (home : Home) (row : IsWorkersRow lines
       (worker_went before c.begun c.comes.mid c.comes.world begun held_in none c.comes.went gone.state gone.told) s seen a 0 refl
 
   pub works_none : (before : Seen) (old : World) (queues : List QueueName) (done passed : ℕ) (after : Seen) (new : World) → IsBetween k home first old → (h : HoldsWithin n lines old before)
-      → (mine : ℕ) → Mine mine h.state old → Works (worker k n) before old queues done passed after new → (s : CloudState) → after.state ≡ Some s → (own : ℕ) × Mine own s new
+      → (mine : ℕ) → Mine mine h.state old → Works (worker k n) before old (gone_through queues done passed) after new → (s : CloudState) → after.state ≡ Some s → (own : ℕ) × Mine own s new
   works_none before old queues done passed after new w h mine all no_checkpoint s seen = (mine, subst (λ (z : CloudState). Mine mine z old) (same_Some h.state s (sym h.told ∙ seen)) all)
   works_none before old queues done passed after new w h mine all (checkpoint_more others kept left mid world queue a _ _ works makes passes) s seen =
       let gone = holds_works n k lines home row first before old others kept left mid world w h works in

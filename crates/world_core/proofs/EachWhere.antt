@@ -13,7 +13,7 @@ use Rattle.world_core.specs.declared.asked.Request.TheVariants.{Begin, Note, Abo
 use Rattle.world_core.specs.World.{World}
 use Rattle.world_core.specs.declared.world.WorldFault.{WorldFault}
 use Rattle.world_core.specs.EachStep.{StepFact, EachWent, EachCome, EachTold, EachMade, EachRunTold, EachRun, EachCrashed, EachSettlingOn, EachSettling, EachDone, EachServed, EachAsked, EachThrough, EachWork}
-use Rattle.world_core.specs.Handled.{StepsLooked, StepsTo, MakesStep, Went, start, further, ComesTo, RunsTo, Runs, SettlesOn, Settles, Crashes, Does, Serves, Answers, Works, WorksThrough, checkpoint_more, no_checkpoint}
+use Rattle.world_core.specs.Handled.{StepsLooked, StepsTo, MakesStep, Went, start, further, ComesTo, RunsTo, Runs, SettlesOn, Settles, Crashes, Does, Serves, Answers, Works, WorksThrough, checkpoint_more, no_checkpoint, gone_through}
 use Rattle.world_core.specs.Span.{span_of}
 
 module _ (First Then : StepFact)
@@ -30,7 +30,7 @@ module _ (First Then : StepFact)
   comes_where who before after old new answer comes each =
       (went_where who before old comes.mid comes.world comes.went each.0, own who _ comes.mid after comes.world new _ comes.steps each.1)
 
-  works_where : (who : Caller) (before : Seen) (old : World) (queues : List QueueName) (done passed : ℕ) (after : Seen) (new : World) (works : Works who before old queues done passed after new)
+  works_where : (who : Caller) (before : Seen) (old : World) (queues : List QueueName) (done passed : ℕ) (after : Seen) (new : World) (works : Works who before old (gone_through queues done passed) after new)
       → EachWork First works → EachWork Then works
   works_where who before old queues done passed after new no_checkpoint each = tt
   works_where who before old queues done passed after new (checkpoint_more others kept left mid world queue a _ _ works makes passes) each =

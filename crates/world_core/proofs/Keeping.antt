@@ -31,7 +31,7 @@ use Rattle.world_core.proofs.Errands.{IsRightErrand, begins_errand}
 use Rattle.world_core.proofs.Joining.{may_join}
 use Rattle.world_core.proofs.StandsLemmas.{changed_at, changed_was, changed_rests, went_rests, has_at, no_memory}
 use Rattle.world_core.specs.Asked.{bound_of, IsOpening, IsReading, IsScanning, IsLookingUp, IsPaging, IsFolding, IsNoted, IsStep, OfSession, Asks, noting_of, IsPlace, change_in}
-use Rattle.world_core.specs.Handled.{Declines, Has, BeginsOp, NotesChange, DropsChanges, MakesNoCall, StepsLooked, MakesStep, Went, start, further, Runs, SettlesOn, Settles, Dies, Crashes, Does, WaitsFor, WaitsTooLong, Reports, Answers, Handled, Policies, Works, WorksThrough, checkpoint_more, checkpoint_of, no_checkpoint}
+use Rattle.world_core.specs.Handled.{Declines, Has, BeginsOp, NotesChange, DropsChanges, MakesNoCall, StepsLooked, MakesStep, Went, start, further, Runs, SettlesOn, Settles, Dies, Crashes, Does, WaitsFor, WaitsTooLong, Reports, Answers, Handled, Policies, Works, WorksThrough, checkpoint_more, checkpoint_of, no_checkpoint, gone_through}
 use Rattle.world_core.specs.Sessions.{Changes, NotesIn, AbortsIn, joined}
 use Rattle.world_core.specs.Stands.{KeepsABook}
 use Rattle.world_core.specs.World.{World}
@@ -304,7 +304,7 @@ module _ (n k : ℕ) (before after : Seen) (old new : World) (r : Reply) (some :
   )
 
   -- each checkpoint that is due keeps it
-  works_still : (queues : List QueueName) (done passed : ℕ) (end : Seen) (world : World) → Works who before old queues done passed end world → IsStill world end
+  works_still : (queues : List QueueName) (done passed : ℕ) (end : Seen) (world : World) → Works who before old (gone_through queues done passed) end world → IsStill world end
   works_still queues done passed end world no_checkpoint = still
   works_still queues done passed end world (checkpoint_more others kept left mid prior queue a _ _ works makes passes) =
       let was = works_still others kept left mid prior works in

@@ -31,7 +31,7 @@ use Rattle.session_notes.specs.Notebook.{note_of_ask, note_of_end, with_note}
 use Rattle.world_core.proofs.Ledgers.{book_after, book_before, writer_notes, writer_same}
 use Rattle.world_core.specs.Alone.{StepIsUndisturbed}
 use Rattle.world_core.specs.EachStep.{EachCome, EachWent, EachWork}
-use Rattle.world_core.specs.Handled.{BeginsCheckpoint, ComesTo, StepsLooked, Went, Works, checkpoint_more, further, is_done, no_checkpoint, note_of_hand, start}
+use Rattle.world_core.specs.Handled.{BeginsCheckpoint, ComesTo, StepsLooked, Went, Works, checkpoint_more, further, is_done, no_checkpoint, note_of_hand, start, gone_through}
 use Rattle.world_core.specs.Metered.{HasLedger, IsWriters}
 use Rattle.world_core.specs.Spared.{HasSent, HaveLanded}
 use Rattle.world_core.specs.World.{World}
@@ -237,7 +237,7 @@ module _ (who : Caller) (k : ℕ) where
     };
   }
 
-  pub works_sent : (before : Seen) (old : World) (queues : List QueueName) (done passed : ℕ) (after : Seen) (new : World) → (works : Works who before old queues done passed after new)
+  pub works_sent : (before : Seen) (old : World) (queues : List QueueName) (done passed : ℕ) (after : Seen) (new : World) → (works : Works who before old (gone_through queues done passed) after new)
       → EachWork StepIsUndisturbed works → HasSentSeen who.session k old before → HasSentSeen who.session k new after
   works_sent before old queues done passed after new no_checkpoint undisturbed h = h
   works_sent before old queues done passed after new (checkpoint_more others kept left mid world queue a _ _ works makes passes) undisturbed h =

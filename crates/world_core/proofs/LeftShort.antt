@@ -49,7 +49,7 @@ use Rattle.world_core.specs.declared.asked.Request.TheVariants.{Begin, Note, Abo
 use Rattle.world_core.specs.declared.put.Put.{Put}
 use Rattle.world_core.specs.declared.world.WorldFault.{WorldFault}
 use Rattle.session_facts.specs.Lines.Errands as errands
-use Rattle.world_core.specs.Handled.{Answers, BeginsOp, BreaksOff, ComesTo, Crashes, Does, DropsChanges, FallsShort, Handled, MakesStep, NotesChange, Runs, RunsShort, Settles, SettlesOn, StepsLooked, StopsShort, Went, further, start, CheckpointFails, Checkpoints, FailsAt, IsUndone, KnowsNoDue, Policies, Works, WorksThrough, checkpoint_more, is_done, no_checkpoint}
+use Rattle.world_core.specs.Handled.{Answers, BeginsOp, BreaksOff, ComesTo, Crashes, Does, DropsChanges, FallsShort, Handled, MakesStep, NotesChange, Runs, RunsShort, Settles, SettlesOn, StepsLooked, StopsShort, Went, further, start, CheckpointFails, Checkpoints, FailsAt, IsUndone, KnowsNoDue, Policies, Works, WorksThrough, checkpoint_more, is_done, no_checkpoint, gone_through}
 use Rattle.world_core.specs.LeftShort.{AskedShort, IsBroken, IsLeftShort, LeavesShort, ServesShort, SettlerShort}
 use Rattle.world_core.specs.Put.{put_of, put_of_ask}
 use Rattle.world_core.specs.Replying.{RepliesBegun, RepliesTurn, done_reply}
@@ -355,7 +355,7 @@ module _ (who : Caller) (new : World) where
       left_before _ old c.begun c.begins.session
       (left_went before c.begun c.comes.mid c.comes.world c.comes.went (left_before _ c.comes.world world c.comes.steps.session left))
 
-  worked_left : (before : Seen) (old : World) (queues : List QueueName) (done passed : ℕ) (after : Seen) (world : World) → Works who before old queues done passed after world
+  worked_left : (before : Seen) (old : World) (queues : List QueueName) (done passed : ℕ) (after : Seen) (world : World) → Works who before old (gone_through queues done passed) after world
       → LeftOpen world → LeftOpen old
   worked_left before old queues done passed after world no_checkpoint left = left
   worked_left before old queues done passed after world (checkpoint_more others kept passes_by mid prior queue a _ _ works makes passes) left =

@@ -43,7 +43,7 @@ use Rattle.world_core.proofs.MeteredSteps.{MetersSeen}
 use Rattle.world_core.proofs.StandsLemmas.{changed_at}
 use Rattle.world_core.proofs.Workers.{HoldsWithin, IsBetween, holds_works, within_works, worker}
 use Rattle.world_core.specs.EachStep.{EachCome, EachWork}
-use Rattle.world_core.specs.Handled.{BeginsCheckpoint, Checkpoints, IsPassable, Works, checkpoint_more, checkpoint_of, no_checkpoint, passed_by}
+use Rattle.world_core.specs.Handled.{BeginsCheckpoint, Checkpoints, IsPassable, Works, checkpoint_more, checkpoint_of, no_checkpoint, passed_by, gone_through}
 use Rattle.world_core.specs.Metered.{HasLedger, IsWriters, Meters, StepGoesThrough}
 use Rattle.world_core.specs.World.{World}
 use Rattle.world_core.specs.Span.{span_of}
@@ -195,7 +195,7 @@ module _ (n k session : ℕ) (lines : List Line) where
       (earlier : List Note) (ledger : HasLedger session k earlier old.notes) (metered : IsMetered earlier h.state) (short : (place : Place) → sent_since earlier place ≤ 255) where
     -- one more
     one_off : (others : List QueueName) (kept left : ℕ) (mid : Seen) (world : World) (queue : QueueName) (a : Answer) (after : Seen) (new : World)
-        → Works who before old others kept left mid world → (makes : Checkpoints who queue (span_of mid after world new) a) → IsPassable a → passed_by a ≡ 0
+        → Works who before old (gone_through others kept left) mid world → (makes : Checkpoints who queue (span_of mid after world new) a) → IsPassable a → passed_by a ≡ 0
         → EachCome StepGoesThrough who (span_of mid after makes.begun new) a makes.comes → HasWorked others earlier world mid → HasWorked (others ++ queue ∷ []) earlier new after
     one_off others kept left mid world queue a after new works makes passes none each was = record {
       notes = end.notes ++ Kept queue ∷ [];
@@ -237,7 +237,7 @@ module _ (n k session : ℕ) (lines : List Line) where
     none_last : (left own : ℕ) → left + own ≡ 0 → own ≡ 0
     none_last left own none = omega (arith, none)
 
-    pub works_off : (queues : List QueueName) (done passed : ℕ) (after : Seen) (new : World) (works : Works who before old queues done passed after new) → passed ≡ 0
+    pub works_off : (queues : List QueueName) (done passed : ℕ) (after : Seen) (new : World) (works : Works who before old (gone_through queues done passed) after new) → passed ≡ 0
         → EachWork StepGoesThrough works → HasWorked queues earlier new after
     works_off queues done passed after new no_checkpoint none each =
         record { notes = earlier; kept = λ place. omega arith; ledger = ledger; state = h.state; told = h.told; metered = metered }
@@ -257,7 +257,7 @@ due_to k notes book queues is due_so =
 module _ (n k session bound : ℕ) (lines : List Line) (row : IsWorkersRow lines (worker session n)) (before after : Seen) (old new : World) (d_done d_passed : ℕ)
     (h : HoldsWithin n lines old before) (m : Meters session k bound old h.state) (limit : bound ≤ k - 1 + most_changes) where
   pub works_down_few : (home : Home) → IsBetween session home (session_at old.sessions) old → (queues : List QueueName) → ((book : Notebook) → slice_get old.notes session ≡ Some book → IsDue book queues)
-      → (works : Works (worker session n) before old queues d_done d_passed after new) → d_passed ≡ 0 → EachWork StepGoesThrough works
+      → (works : Works (worker session n) before old (gone_through queues d_done d_passed) after new) → d_passed ≡ 0 → EachWork StepGoesThrough works
       → MetersSeen session k (k - 1) new after
   works_down_few home rest queues due_so works none each = record {
     state = w.state;

@@ -27,7 +27,7 @@ use Rattle.world_core.specs.World.{World}
 use Rattle.world_core.specs.declared.world.WorldFault.{WorldFault}
 use Rattle.world_core.specs.Bounded.{steps_of}
 use Rattle.world_core.specs.EachStep.{EachWent, EachCome, EachTold, EachMade, EachRunTold, EachRun, EachCrashed, EachDone, EachServed, EachThrough, EachWork}
-use Rattle.world_core.specs.Handled.{StepsLooked, StepsTo, MakesStep, Went, start, further, ComesTo, RunsTo, Runs, Crashes, Does, Serves, Answers, Checkpoints, Works, WorksThrough, checkpoint_more, no_checkpoint}
+use Rattle.world_core.specs.Handled.{StepsLooked, StepsTo, MakesStep, Went, start, further, ComesTo, RunsTo, Runs, Crashes, Does, Serves, Answers, Checkpoints, Works, WorksThrough, checkpoint_more, no_checkpoint, gone_through}
 use Rattle.world_core.specs.Named.{StepNames, NamesAt, NamesSteps}
 use Rattle.world_core.specs.Stands.{WorldStands}
 use Rattle.world_core.specs.Span.{span_of}
@@ -113,7 +113,7 @@ module _ (lines : List Line) (n : ℕ) (before after : Seen) (old new : World) (
           )
 
       each_names : (from : Seen) (world : World) (queues : List QueueName) (done passed : ℕ) (to : Seen) (left : World) → IsBetween k home first world → (h : HoldsWithin n all_lines world from)
-          → (mine : ℕ) → CountsAll (at k mine (calls_told lines)) h.state (session_at world.sessions) → (works : Works (worker k n) from world queues done passed to left)
+          → (mine : ℕ) → CountsAll (at k mine (calls_told lines)) h.state (session_at world.sessions) → (works : Works (worker k n) from world (gone_through queues done passed) to left)
           → EachWork StepNames works
       each_names from world queues done passed to left w h mine counts no_checkpoint = tt
       each_names from world queues done passed to left w h mine counts (checkpoint_more others kept passes_by mid prior queue a _ _ works makes passes) =

@@ -53,7 +53,7 @@ use Rattle.world_core.specs.declared.world.WorldFault.{WorldFault}
 use Rattle.world_core.specs.Asked.{Asks}
 use Rattle.world_core.specs.Replying.{RepliesBegun}
 use Rattle.world_core.specs.Sessions.{Changes, NotesIn, AbortsIn}
-use Rattle.world_core.specs.Handled.{Has, BeginsOp, BreaksOff, SetsWish, StepsLooked, StepsTo, FallsShort, RunsShort, MakesStep, Went, start, further, StopsShort, ComesTo, RunsTo, Runs, SettlesOn, Settles, Dies, Crashes, CrashesDone, Does, Answers, Handled, BeginsCheckpoint, CheckpointFails, FailsAt, KnowsNoDue, Policies, Works, WorksThrough, checkpoint_more, checkpoint_of, no_checkpoint}
+use Rattle.world_core.specs.Handled.{Has, BeginsOp, BreaksOff, SetsWish, StepsLooked, StepsTo, FallsShort, RunsShort, MakesStep, Went, start, further, StopsShort, ComesTo, RunsTo, Runs, SettlesOn, Settles, Dies, Crashes, CrashesDone, Does, Answers, Handled, BeginsCheckpoint, CheckpointFails, FailsAt, KnowsNoDue, Policies, Works, WorksThrough, checkpoint_more, checkpoint_of, no_checkpoint, gone_through}
 use Rattle.world_core.specs.Added.{WorldAdds}
 use Rattle.world_core.specs.Opened.{AsksToOpen, IsOpenedIn, OpenEachOnce, WorldApart}
 use Rattle.world_core.specs.Span.{span_of}
@@ -388,7 +388,7 @@ module _ (events : List Event) (first : CloudState) where
         (begins_so (checkpoint_of queue) b.session.before b.session.after (Ok Working) (within_op queue b.pending) b.session.does) h
 
     works_once : (before : Seen) (old : World) (queues : List QueueName) (done passed : ℕ) (after : Seen) (new : World) → IsBetween k home others old
-        → Works (worker k n) before old queues done passed after new → WorldApart events first old before → WorldApart events first new after
+        → Works (worker k n) before old (gone_through queues done passed) after new → WorldApart events first old before → WorldApart events first new after
     works_once before old queues done passed after new w no_checkpoint h = h
     works_once before old queues done passed after new w (checkpoint_more earlier kept left mid world queue a _ _ works makes passes) h =
         let was = within_works (worker k n) home others before old earlier kept left mid world w works in

@@ -41,7 +41,7 @@ use Rattle.world_core.proofs.Workers.{HoldsWithin, IsBetween, holds_begun, holds
 use Rattle.world_core.specs.Calm.{StepIsCalm, work_at}
 use Rattle.world_core.specs.EachStep.{EachAsked, EachCome, EachDone, EachServed, EachThrough, EachWork}
 use Rattle.world_core.specs.Explained.{StepExplains}
-use Rattle.world_core.specs.Handled.{Answers, Checkpoints, Does, IsPassable, Serves, StepsLooked, Went, Works, WorksThrough, checkpoint_more, checkpoint_of, further, no_checkpoint, start}
+use Rattle.world_core.specs.Handled.{Answers, Checkpoints, Does, IsPassable, Serves, StepsLooked, Went, Works, WorksThrough, checkpoint_more, checkpoint_of, further, no_checkpoint, start, gone_through}
 use Rattle.world_core.specs.Passed.{AskedPassed, DonePassed, EachPassed, MayPass, PassesSo, PassesWell, ServedPassed, ThroughPassed}
 use Rattle.world_core.specs.Stands.{WorldStands}
 use Rattle.world_core.specs.UnsentPages.{IsOfUnsent}
@@ -177,7 +177,7 @@ module _ (n session : ℕ) (lines : List Line) (home : Home) (row : IsWorkersRow
   one_so queue before after old new a passes w h c calm explains = tt
 
   each_passed : (before : Seen) (old : World) (queues : List QueueName) (done passed : ℕ) (after : Seen) (new : World) → IsBetween session home first old → HoldsWithin n lines old before
-      → (works : Works who before old queues done passed after new) → EachWork StepIsCalm works
+      → (works : Works who before old (gone_through queues done passed) after new) → EachWork StepIsCalm works
       → EachWork StepExplains works → EachPassed works
   each_passed before old queues done passed after new w h no_checkpoint calm explains = tt
   each_passed before old queues done passed after new w h (checkpoint_more others kept left mid world queue a _ _ works makes passes) calm explains = (

@@ -21,7 +21,7 @@ use Rattle.world_core.specs.declared.asked.Request.{Request}
 use Rattle.world_core.specs.declared.asked.Request.TheVariants.{Begin, Note, Abort, Policy, Work as WorksDue, Step, Run, Crash}
 use Rattle.world_core.specs.declared.world.WorldFault.{WorldFault}
 use Rattle.session_facts.specs.Lines.Errands.{Errand, settles, sweeps}
-use Rattle.world_core.specs.Handled.{Declines, MakesNoCall, Has, StepsLooked, MakesStep, Went, start, further, ComesTo, Runs, SettlesOn, Crashes, Does, Reports, Answers, Handled, BeginsCheckpoint, Policies, Works, WorksThrough, checkpoint_more, no_checkpoint}
+use Rattle.world_core.specs.Handled.{Declines, MakesNoCall, Has, StepsLooked, MakesStep, Went, start, further, ComesTo, Runs, SettlesOn, Crashes, Does, Reports, Answers, Handled, BeginsCheckpoint, Policies, Works, WorksThrough, checkpoint_more, no_checkpoint, gone_through}
 use Rattle.world_core.specs.Sound.{IsSoundReport}
 use Rattle.world_core.specs.Span.{span_of}
 use Rattle.world_core.proofs.StandsLemmas.{no_memory}
@@ -100,7 +100,7 @@ comes_sees who before after old new answer c =
 begun_sees : (seen : Seen) (k : ℕ) (queue : QueueName) (old begun : World) → BeginsCheckpoint k queue old begun → SeesOn seen seen old begun
 begun_sees seen k queue old begun b = sees_same seen seen old begun refl b.blind
 
-works_sees : (who : Caller) (before : Seen) (old : World) (queues : List QueueName) (done passed : ℕ) (after : Seen) (new : World) → Works who before old queues done passed after new
+works_sees : (who : Caller) (before : Seen) (old : World) (queues : List QueueName) (done passed : ℕ) (after : Seen) (new : World) → Works who before old (gone_through queues done passed) after new
     → SeesOn before after old new
 works_sees who before old queues done passed after new no_checkpoint = sees_same before before old old refl refl
 works_sees who before old queues done passed after new (checkpoint_more others kept left mid world queue a _ _ works makes passes) =

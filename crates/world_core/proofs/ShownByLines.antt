@@ -24,7 +24,7 @@ use Rattle.world_core.specs.declared.world.WorldFault.{WorldFault}
 use Rattle.world_core.specs.declared.asked.Asked.{Asked}
 use Rattle.world_core.specs.declared.asked.Asked.TheVariants.{Session, Wait, Report, Settle, Sweep}
 use Rattle.world_core.specs.EachStep.{EachWent, EachSettlingOn, EachSettling, EachAsked, EachThrough, EachWork}
-use Rattle.world_core.specs.Handled.{StepsLooked, Went, start, further, SettlesOn, Settles, Answers, Works, WorksThrough, checkpoint_more, no_checkpoint}
+use Rattle.world_core.specs.Handled.{StepsLooked, Went, start, further, SettlesOn, Settles, Answers, Works, WorksThrough, checkpoint_more, no_checkpoint, gone_through}
 use Rattle.world_core.specs.ShownByLines.{StepShowsBy, ShowsStepsBy}
 use Rattle.world_core.specs.Span.{span_of}
 use Rattle.world_core.proofs.EachUnderWay.{each_step}
@@ -116,7 +116,7 @@ module _ (lines : List Line) (who : Caller) (home : Home) (first : Sessions) whe
   )
 
   works_show : (before : Seen) (old : World) (queues : List QueueName) (done passed : ℕ) (after : Seen) (new : World) → IsBetween who.session home first old
-      → (works : Works who before old queues done passed after new) → EachWork (StepShowsBy lines) works
+      → (works : Works who before old (gone_through queues done passed) after new) → EachWork (StepShowsBy lines) works
   works_show before old queues done passed after new w no_checkpoint = tt
   works_show before old queues done passed after new w (checkpoint_more others kept left mid world queue a _ _ works c passes) =
       let begun = within_begun who.session home first queue world c.begun (within_works who home first before old others kept left mid world w works) c.begins in (

@@ -43,7 +43,7 @@ use Rattle.world_core.proofs.StandsLemmas.{no_memory, refused_is}
 use Rattle.world_core.specs.Alone.{LeavesAlone}
 use Rattle.world_core.specs.Asked.{Asks, OfSession}
 use Rattle.world_core.specs.EachStep.{EachAsked, EachDone, EachCome, EachThrough, EachWork}
-use Rattle.world_core.specs.Handled.{Answers, ComesTo, Does, IsPassable, StepsLooked, Went, Works, WorksDown, WorksThrough, checkpoint_more, further, no_checkpoint, passed_by, start}
+use Rattle.world_core.specs.Handled.{Answers, ComesTo, Does, IsPassable, StepsLooked, Went, Works, WorksDown, WorksThrough, checkpoint_more, further, no_checkpoint, passed_by, start, gone_through}
 use Rattle.world_core.specs.Metered.{HasLedger}
 use Rattle.world_core.specs.Passed.{AskedPassed, DonePassed, EachPassed, MayPass, PassesSo, ThroughPassed}
 use Rattle.world_core.specs.Replying.{declined}
@@ -118,7 +118,7 @@ comes_some : (queue : QueueName) (who : Caller) (before after : Seen) (old new :
 comes_some queue who before after old new a comes h =
     step_some queue who _ comes.mid after comes.world new _ comes.steps (went_some queue who before old comes.mid comes.world comes.went h)
 
-works_some : (queue : QueueName) (who : Caller) (before : Seen) (old : World) (queues : List QueueName) (done passed : ℕ) (after : Seen) (new : World) → Works who before old queues done passed after new
+works_some : (queue : QueueName) (who : Caller) (before : Seen) (old : World) (queues : List QueueName) (done passed : ℕ) (after : Seen) (new : World) → Works who before old (gone_through queues done passed) after new
     → IsSentSeen queue before → IsSentSeen queue after
 works_some queue who before old queues done passed after new no_checkpoint h = h
 works_some queue who before old queues done passed after new (checkpoint_more others kept left mid world own a _ _ works makes passes) h =
@@ -150,7 +150,7 @@ one_spared who queue mid after begun new a comes each passes so sent = absurd pa
 
 -- ---- all of them
 
-each_spared : (who : Caller) (before : Seen) (old : World) (queues : List QueueName) (done passed : ℕ) (after : Seen) (new : World) → (works : Works who before old queues done passed after new)
+each_spared : (who : Caller) (before : Seen) (old : World) (queues : List QueueName) (done passed : ℕ) (after : Seen) (new : World) → (works : Works who before old (gone_through queues done passed) after new)
     → EachWork StepSpendsNone works → EachPassed works
     → ((tree page : ℕ) → IsIn queues (PagePu tree page) → IsSentSeen (PagePu tree page) before) → passed ≡ 0
 each_spared who before old queues done passed after new no_checkpoint each so sent = refl

@@ -17,7 +17,7 @@ use Rattle.session_facts.specs.Lines.Facts.{session_at, ActsAs}
 use Rattle.session_facts.specs.Sessions.Knows.{Sessions}
 use Rattle.world_audit.specs.Look.{Looked}
 use Rattle.world_core.specs.Added.{WorldAdds}
-use Rattle.world_core.specs.Handled.{SetsWish, StepsLooked, Went, start, further, RunsShort, StopsShort, FallsShort, Checkpoints, CheckpointFails, FailsAt, KnowsNoDue, Works, no_checkpoint, checkpoint_more, WorksDown, WorksShort, WorksThrough}
+use Rattle.world_core.specs.Handled.{SetsWish, StepsLooked, Went, start, further, RunsShort, StopsShort, FallsShort, Checkpoints, CheckpointFails, FailsAt, KnowsNoDue, Works, no_checkpoint, checkpoint_more, WorksDown, WorksShort, WorksThrough, gone_through}
 use Rattle.world_core.specs.Sessions.{Changes}
 use Rattle.world_core.specs.World.{World}
 use Rattle.world_core.specs.declared.world.WorldFault.{WorldFault}
@@ -68,7 +68,7 @@ module _ (n k : ℕ) (lines : List Line) (first : CloudState) (home : Home) (oth
       (worker_went before c.begun c.comes.mid c.comes.world begun c.comes.went rows)
 
   worker_works : (before : Seen) (old : World) (queues : List QueueName) (done passed : ℕ) (after : Seen) (new : World) → IsBetween k home others old
-      → Works (worker k n) before old queues done passed after new → Rows before → Rows after
+      → Works (worker k n) before old (gone_through queues done passed) after new → Rows before → Rows after
   worker_works before old queues done passed after new w no_checkpoint rows = rows
   worker_works before old queues done passed after new w (checkpoint_more earlier kept left mid world queue a _ _ works makes passes) rows =
       worker_made queue mid after world new a (within_works (worker k n) home others before old earlier kept left mid world w works) makes

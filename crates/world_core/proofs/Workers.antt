@@ -32,7 +32,7 @@ use Rattle.session_facts.proofs.Lines.Worker.{work_begins, work_ends, worker_row
 use Rattle.world_core.specs.World.{World}
 use Rattle.world_core.specs.declared.world.WorldFault.{WorldFault}
 use Rattle.world_core.specs.Sessions.{Changes}
-use Rattle.world_core.specs.Handled.{StepsLooked, Went, start, further, IsOpen, BeginsCheckpoint, Checkpoints, IsPassable, Works, no_checkpoint, checkpoint_more, WorksDown, WorksThrough, checkpoint_of}
+use Rattle.world_core.specs.Handled.{StepsLooked, Went, start, further, IsOpen, BeginsCheckpoint, Checkpoints, IsPassable, Works, no_checkpoint, checkpoint_more, WorksDown, WorksThrough, checkpoint_of, gone_through}
 use Rattle.world_core.specs.Span.{span_of}
 use Rattle.world_core.proofs.Behind.{LinesStand, LineLeaves}
 use Rattle.world_core.proofs.StandsLemmas.{IsNoReport, changed_at, changed_was, declines, no_memory, no_report_front, no_report_left, no_report_right}
@@ -152,7 +152,7 @@ module _ (who : Caller) (home : Home) (first : Sessions) where
       (within_went before c.begun c.comes.mid c.comes.world (within_begun who.session home first queue old c.begun w c.begins) c.comes.went) c.comes.steps
 
   pub within_works : (before : Seen) (old : World) (queues : List QueueName) (done passed : ℕ) (after : Seen) (new : World) → IsBetween who.session home first old
-      → Works who before old queues done passed after new → IsBetween who.session home first new
+      → Works who before old (gone_through queues done passed) after new → IsBetween who.session home first new
   within_works before old queues done passed after new w no_checkpoint = w
   within_works before old queues done passed after new w (checkpoint_more others kept left mid world queue a _ _ works makes passes) =
       within_made queue mid after world new a passes (within_works before old others kept left mid world w works) makes
@@ -248,7 +248,7 @@ module _ (n k : ℕ) (lines : List Line) (home : Home) (row : IsWorkersRow lines
         begun = within_begun k home first queue old c.begun w c.begins
 
     pub holds_works : (before : Seen) (old : World) (queues : List QueueName) (done passed : ℕ) (after : Seen) (new : World) → IsBetween k home first old → HoldsWithin n lines old before
-        → Works (worker k n) before old queues done passed after new → HoldsWithin n lines new after
+        → Works (worker k n) before old (gone_through queues done passed) after new → HoldsWithin n lines new after
     holds_works before old queues done passed after new w h no_checkpoint = h
     holds_works before old queues done passed after new w h (checkpoint_more others kept left mid world queue a _ _ works makes passes) =
         holds_made queue mid after world new a (within_works (worker k n) home first before old others kept left mid world w works)

@@ -16,7 +16,7 @@ use Rattle.world_core.specs.declared.asked.Request.{Request}
 use Rattle.world_core.specs.declared.asked.Request.TheVariants.{Work, Step, Run, Crash}
 use Rattle.world_core.specs.World.{World}
 use Rattle.world_core.specs.declared.world.WorldFault.{WorldFault}
-use Rattle.world_core.specs.Handled.{StepsLooked, StepsTo, MakesStep, Went, start, further, ComesTo, RunsTo, Runs, Works, no_checkpoint, checkpoint_more, WorksThrough, Crashes, Does, Serves, Answers, Handled}
+use Rattle.world_core.specs.Handled.{StepsLooked, StepsTo, MakesStep, Went, start, further, ComesTo, RunsTo, Runs, Works, no_checkpoint, checkpoint_more, WorksThrough, Crashes, Does, Serves, Answers, Handled, gone_through}
 use Rattle.world_core.specs.Stands.{WorldStands}
 use Rattle.world_core.specs.Span.{Span, span_of}
 
@@ -67,7 +67,7 @@ RunsSoon lines who span result (inr (inr memory)) = Unit {0}
 
 -- each checkpoint that is due makes its own
 abbrev pub EachSoon : {who : Caller} {before : Seen} {old : World} {queues : List QueueName} {done passed : ℕ} {after : Seen} {new : World}
-    → Works who before old queues done passed after new → Type 0
+    → Works who before old (gone_through queues done passed) after new → Type 0
 EachSoon no_checkpoint = Unit {0}
 EachSoon (checkpoint_more others kept left mid world queue answer after new works makes passes) =
     EachSoon works

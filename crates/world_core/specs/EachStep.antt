@@ -15,7 +15,7 @@ use Rattle.world_core.specs.declared.asked.Request.{Request}
 use Rattle.world_core.specs.declared.asked.Request.TheVariants.{Begin, Note, Abort, Policy, Work, Step, Run, Crash}
 use Rattle.world_core.specs.World.{World}
 use Rattle.world_core.specs.declared.world.WorldFault.{WorldFault}
-use Rattle.world_core.specs.Handled.{StepsLooked, StepsTo, MakesStep, Went, start, further, ComesTo, RunsTo, Runs, SettlesOn, Settles, Works, no_checkpoint, checkpoint_more, WorksThrough, Crashes, Does, Serves, Answers, Handled}
+use Rattle.world_core.specs.Handled.{StepsLooked, StepsTo, MakesStep, Went, start, further, ComesTo, RunsTo, Runs, SettlesOn, Settles, Works, no_checkpoint, checkpoint_more, WorksThrough, Crashes, Does, Serves, Answers, Handled, gone_through}
 use Rattle.world_core.specs.Span.{Span, span_of}
 
 -- what may be said of a step
@@ -74,7 +74,7 @@ EachSettling Holds errand n span result (inr memory) = Unit {0}
 
 -- of each step of the checkpoints that a session made
 abbrev pub EachWork : StepFact → {who : Caller} {before : Seen} {old : World} {queues : List QueueName} {done passed : ℕ} {after : Seen} {new : World}
-    → Works who before old queues done passed after new → Type 0
+    → Works who before old (gone_through queues done passed) after new → Type 0
 EachWork Holds no_checkpoint = Unit {0}
 EachWork Holds (checkpoint_more others kept left mid world queue answer after new works makes passes) =
     EachWork Holds works × EachCome Holds _ (span_of mid after makes.begun new) answer makes.comes

@@ -404,12 +404,21 @@ pub record MakesOne (who : Caller) (queue : QueueName) (done : Bool) (span : Spa
   pub kept : done_by answer ≡ as_one done
   pub passed : passed_by answer ≡ as_one (not done)
 
--- one checkpoint for each of these queues, in their order: how many were done, and how many passed over
-pub data Works (who : Caller) (before : Seen) (old : World) : List QueueName → ℕ → ℕ → Seen → World → Type 0 where
-  no_checkpoint : Works who before old [] 0 0 before old
+-- queues that were gone through, and how many of their checkpoints were done and how many passed over
+pub record GoneThrough : Type 0 where
+  pub queues : List QueueName
+  pub done : ℕ
+  pub passed : ℕ
+
+abbrev pub gone_through : List QueueName → ℕ → ℕ → GoneThrough
+gone_through queues done passed = record { queues = queues; done = done; passed = passed }
+
+-- one checkpoint for each of the queues, in their order
+pub data Works (who : Caller) (before : Seen) (old : World) : GoneThrough → Seen → World → Type 0 where
+  no_checkpoint : Works who before old (gone_through [] 0 0) before old
   checkpoint_more : (queues : List QueueName) (done passed : ℕ) (mid : Seen) (world : World) (queue : QueueName) (answer : Answer) (after : Seen) (new : World)
-      → Works who before old queues done passed mid world → Checkpoints who queue (span_of mid after world new) answer → IsPassable answer
-      → Works who before old (queues ++ queue ∷ []) (done + done_by answer) (passed + passed_by answer) after new
+      → Works who before old (gone_through queues done passed) mid world → Checkpoints who queue (span_of mid after world new) answer → IsPassable answer
+      → Works who before old (gone_through (queues ++ queue ∷ []) (done + done_by answer) (passed + passed_by answer)) after new
 
 -- a session of a number is open with nothing at work
 pub record IsOpen (number : ℕ) (sessions : List Acting) : Type 0 where
@@ -434,7 +443,7 @@ pub record RefusesWork (number : ℕ) (span : Span) (result : Result Reply World
 pub record WorksOff (who : Caller) (queues : List QueueName) (span : Span) (r : Reply) : Type 0 where
   pub done : ℕ
   pub passed : ℕ
-  pub works : Works who span.before span.old queues done passed span.after span.new
+  pub works : Works who span.before span.old (gone_through queues done passed) span.after span.new
   pub replies : r ≡ reply.Worked done passed
 
 -- a session that is open makes the checkpoints that are due to it
@@ -444,7 +453,7 @@ pub record WorksDown (who : Caller) (span : Span) (result : Result Reply WorldFa
   pub due : IsDueAt who.session span.old.notes queues
   pub done : ℕ
   pub passed : ℕ
-  pub works : Works who span.before span.old queues done passed span.after span.new
+  pub works : Works who span.before span.old (gone_through queues done passed) span.after span.new
   pub replies : result ≡ Ok (reply.Worked done passed)
 
 -- memory ran out in a checkpoint: on the way, or it was the answer
@@ -472,7 +481,7 @@ pub record WorksShort (who : Caller) (span : Span) : Type 0 where
   pub passed : ℕ
   pub mid : Seen
   pub world : World
-  pub works : Works who span.before span.old queues done passed mid world
+  pub works : Works who span.before span.old (gone_through queues done passed) mid world
   pub falls : KnowsNoDue who.session (span_of mid span.after world span.new) ⊎ FailsAt who (span_of mid span.after world span.new)
 
 abbrev pub WorksThrough : Caller → Span → Result Reply WorldFault → Type 0

@@ -13,7 +13,7 @@ use Rattle.session_facts.specs.Sessions.Spent.{IsSpentInTree}
 use Rattle.session_facts.specs.Sessions.Untroubled.{IsSpent, IsSpentOrOf}
 use Rattle.world_core.specs.Calm.{StepIsCalm}
 use Rattle.world_core.specs.EachStep.{EachStep}
-use Rattle.world_core.specs.Handled.{Answers, Does, Handled, Serves, Works, WorksThrough, checkpoint_more, no_checkpoint}
+use Rattle.world_core.specs.Handled.{Answers, Does, Handled, Serves, Works, WorksThrough, checkpoint_more, no_checkpoint, gone_through}
 use Rattle.world_core.specs.Stands.{WorldStands}
 use Rattle.world_core.specs.UnsentPages.{IsOfUnsent}
 use Rattle.world_core.specs.World.{World}
@@ -37,7 +37,7 @@ PassesSo queue after a = Unit {0}
 
 -- and so was each that was passed over
 abbrev pub EachPassed : {who : Caller} {before : Seen} {old : World} {queues : List QueueName} {done passed : ℕ} {after : Seen} {new : World}
-    → Works who before old queues done passed after new → Type 0
+    → Works who before old (gone_through queues done passed) after new → Type 0
 EachPassed no_checkpoint = Unit {0}
 EachPassed (checkpoint_more others kept left mid world queue a after new works makes passes) =
     EachPassed works × PassesSo queue after a

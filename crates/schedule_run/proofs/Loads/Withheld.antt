@@ -14,7 +14,7 @@ use Rattle.session_facts.specs.Lines.Errands.{Errand, settles, sweeps}
 use Rattle.world_core.proofs.StandsLemmas.{no_memory}
 use Rattle.world_core.specs.Asked.{Asks}
 use Rattle.world_core.specs.EachStep.{EachWent, EachCome, EachSettlingOn, EachSettling, EachAsked, EachStep}
-use Rattle.world_core.specs.Handled.{Declines, StepsLooked, MakesStep, Went, start, further, ComesTo, Runs, Settles, SettlesOn, Crashes, Does, Answers, Handled, Policies, Works, WorksThrough, checkpoint_more, no_checkpoint}
+use Rattle.world_core.specs.Handled.{Declines, StepsLooked, MakesStep, Went, start, further, ComesTo, Runs, Settles, SettlesOn, Crashes, Does, Answers, Handled, Policies, Works, WorksThrough, checkpoint_more, no_checkpoint, gone_through}
 use Rattle.world_core.specs.Settled.{StepDelivers}
 use Rattle.world_core.specs.World.{World}
 use Rattle.world_core.specs.declared.asked.Asked.{Asked}
@@ -91,7 +91,7 @@ comes_delivers who before after old new answer c still =
       delivers who _ c.mid after c.world new _ c.steps (omega (arith, first, still)),
     )
 
-works : (who : Caller) (before : Seen) (old : World) (queues : List QueueName) (done passed : ℕ) (after : Seen) (new : World) → Works who before old queues done passed after new
+works : (who : Caller) (before : Seen) (old : World) (queues : List QueueName) (done passed : ℕ) (after : Seen) (new : World) → Works who before old (gone_through queues done passed) after new
     → Withholds before after
 works who before old queues done passed after new no_checkpoint = withholds_same before before refl
 works who before old queues done passed after new (checkpoint_more others kept left mid world queue a _ _ w makes passes) =

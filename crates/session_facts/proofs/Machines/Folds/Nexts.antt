@@ -19,7 +19,7 @@ use Rattle.tree_phases.specs.declared.link.Link.{Link as Found}
 use Rattle.tree_phases.specs.Placing.{has_nothing}
 use Rattle.tree_phases.specs.Read.{tree_held}
 use Rattle.session_facts.specs.Machines.Trees.Charts.{IsFound, AreFound}
-use Rattle.session_facts.specs.Machines.Folds.Nexts.{KnowsStep}
+use Rattle.session_facts.specs.Machines.Folds.Nexts.{right_of, KnowsStep}
 use Rattle.session_facts.specs.Machines.Trees.Leaves.{IsCome, IsReading, IsPutting}
 use Rattle.session_facts.specs.Machines.Trees.Ways.{IsOnWay}
 use Rattle.session_facts.proofs.Machines.Folds.Plans.{nothing_left, plan_known}
@@ -48,7 +48,7 @@ module _ (book : Book) (order : List Entry) (s : CloudState) (stands : StandsUnd
 
   -- to the right
   right_leads : (high : List ℕ) (right : ℕ) → leaf.high ≡ Some high → page_at leaf.right ≡ Some right → bytes_below f.chart.key high ≡ false
-      → IsCome st now lease (turned f high right).chart right high (turned f high right).visited ids
+      → IsCome st now lease (right_of (turned f high right) high right) ids
   right_leads high right is named out = record {
     rest = record {
       chart = record { tree = k.at.chart.tree; root = k.at.chart.root; nodes = k.at.chart.nodes; links = found };

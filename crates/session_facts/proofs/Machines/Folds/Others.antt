@@ -15,6 +15,7 @@ use Rattle.cloud_facts.specs.Book.Telling.{last_or}
 use Rattle.cloud_facts.specs.Tellings.Taking.{IsLinked}
 use Rattle.tree_phases.specs.declared.descent.Descent.{Descent}
 use Rattle.tree_phases.specs.declared.chart.Chart.{Chart}
+use Rattle.tree_ckpt.specs.declared.work.Coming.{Coming}
 use Rattle.tree_phases.specs.Read.{tree_held}
 use Rattle.session_facts.specs.Machines.Folds.Knows.{IsDone, KnowsRun, IsAtLeaf, IsNewestLeaf, Reserves, PutsPieces}
 use Rattle.session_facts.specs.Machines.Trees.Leaves.{KnowsRest, IsGetting, IsCome, IsReading, IsPutting}
@@ -160,11 +161,12 @@ rest_others mine st su now later lease c ids after held is o k = record {
   apart = k.apart;
 }
 
-pub come_others : (mine : List Claim) (st su : Store) (now later : ℕ) (lease : Claim) (c : Chart) (page : ℕ) (low : List ℕ) (visited ids : List ℕ) → now ≤ later → IsIn mine lease
-    → lease.lock ≡ lock.Tree c.tree → Others mine later st su → IsCome st now lease c page low visited ids → IsCome su later lease c page low visited ids
-come_others mine st su now later lease c page low visited ids after held is o k = record {
-  rest = rest_others mine st su now later lease c ids after held is o k.rest;
-  way = way_stays (st.book.chain c.tree) (su.book.chain c.tree) 0 page low c.key visited (λ l a. o.passes.grows.links c.tree l a) k.way;
+pub come_others : (mine : List Claim) (st su : Store) (now later : ℕ) (lease : Claim) (c : Coming) (ids : List ℕ) → now ≤ later → IsIn mine lease
+    → lease.lock ≡ lock.Tree c.chart.tree → Others mine later st su → IsCome st now lease c ids → IsCome su later lease c ids
+come_others mine st su now later lease c ids after held is o k = record {
+  rest = rest_others mine st su now later lease c.chart ids after held is o k.rest;
+  way =
+      way_stays (st.book.chain c.chart.tree) (su.book.chain c.chart.tree) 0 c.page c.low c.chart.key c.visited (λ l a. o.passes.grows.links c.chart.tree l a) k.way;
   least = k.least;
 }
 

@@ -75,7 +75,7 @@ module _ (u : Store) (now tree : ℕ) where
   -- ---- a leaf
 
   pub page_leads : (h : Held) (c : Coming) (g : Result Claim Trouble) → ((l : Claim) → g ≡ Ok l → l.lock ≡ lock.Page c.chart.tree c.page) → IsUnder tree h.lease c.chart.tree
-      → ((t : Trouble) → g ≡ Err t → MayStopTree t) → IsCome u now h.lease c.chart c.page c.low c.visited h.deletions.ids → Known (page_taken h c g)
+      → ((t : Trouble) → g ≡ Err t → MayStopTree t) → IsCome u now h.lease c h.deletions.ids → Known (page_taken h c g)
   page_leads h c (Ok l) is under refused k = (
     under,
     inl (record {

@@ -27,7 +27,7 @@ lock_of tree known lease under = under.lock_is ∙ ap lock.Tree (sym under.tree_
 module _ (st su : Store) (now later tree : ℕ) (after : now ≤ later) where
   onward_others : (mine : List Claim) (h : Held) (o : Onward) → IsIn mine h.lease → Others mine later st su → KnowsOnward st now tree h o → KnowsOnward su later tree h o
   onward_others mine h (onward.Right c) held o k =
-      (k.0, come_others mine st su now later h.lease c.chart c.page c.low c.visited h.deletions.ids after held (lock_of tree c.chart.tree h.lease k.0) o k.1)
+      (k.0, come_others mine st su now later h.lease c h.deletions.ids after held (lock_of tree c.chart.tree h.lease k.0) o k.1)
   onward_others mine h (onward.Handled c) held o k = (k.0, rest_others mine st su now later h.lease c h.deletions.ids after held (lock_of tree c.tree h.lease k.0) o k.1)
 
   leaf_others : (mine : List Claim) (h : Held) (f : Folding) → IsIn mine h.lease → IsIn mine f.lease → h.lease.lock ≡ lock.Tree f.chart.tree → Others mine later st su
@@ -43,7 +43,7 @@ module _ (st su : Store) (now later tree : ℕ) (after : now ≤ later) where
   work_others (Descending h d) o k =
       (k.0, getting_others (h.lease ∷ []) st su now later h.lease d h.deletions.ids after (zero, refl) (lock_of tree d.chart.tree h.lease k.0) o k.1)
   work_others (TakingPage h c) o k =
-      (k.0, come_others (h.lease ∷ []) st su now later h.lease c.chart c.page c.low c.visited h.deletions.ids after (zero, refl) (lock_of tree c.chart.tree h.lease k.0) o k.1)
+      (k.0, come_others (h.lease ∷ []) st su now later h.lease c h.deletions.ids after (zero, refl) (lock_of tree c.chart.tree h.lease k.0) o k.1)
   work_others (FoldingLeaf h f) o k =
       (k.0, leaf_others (f.lease ∷ h.lease ∷ []) h f (suc zero, refl) (zero, refl) (lock_of tree f.chart.tree h.lease k.0) o k.1)
   work_others (ReleasingPage h l way) o k = (k.0, onward_others (l ∷ h.lease ∷ []) h way (suc zero, refl) o k.1)

@@ -10,6 +10,7 @@ use Rattle.tree_phases.specs.declared.fork.Fork.{Fork}
 use Rattle.tree_phases.specs.declared.fork.Fork.TheVariants.{Right, Down}
 use Rattle.tree_phases.specs.Descent.{passed, arrive, with_node, descent_next}
 use Rattle.tree_phases.specs.declared.chart.Chart.{Chart}
+use Rattle.tree_ckpt.specs.Moves.{leaf_of}
 use Rattle.tree_phases.specs.declared.kept.KeptNode.{KeptNode}
 use Rattle.tree_phases.specs.Kept.{place_of}
 use Rattle.tree_ckpt.proofs.WayOutcomes.{Arrives, arrives, Gets, gets}
@@ -108,7 +109,7 @@ descent_apart d a apart fresh = gets_apart (gets d (got_of a)) apart fresh
 -- the node that is to be got, or the leaf
 abbrev pub KnowsDescent : Store → ℕ → Claim → List ℕ → Next Descent (Unit {0}) → Type 0
 KnowsDescent st now lease ids (Goes d) = IsGetting st now lease d ids
-KnowsDescent st now lease ids (Ends d x) = IsCome st now lease d.chart d.page d.low d.visited ids
+KnowsDescent st now lease ids (Ends d x) = IsCome st now lease (leaf_of d) ids
 KnowsDescent st now lease ids (Stops d t) = Unit {0}
 
 pub run_kept : (st : Store) (c e : Chart) (ids : List ℕ) → KeepsChart c e → KnowsRun st c ids → KnowsRun st e ids

@@ -32,6 +32,7 @@ use Rattle.session_facts.specs.Machines.Trees.Ways.{IsOnWay}
 use Rattle.split_plan.specs.Part.{LeafPart, NodePart}
 use Rattle.split_plan.specs.Plan.{leaf_bytes, node_bytes}
 use Rattle.tree_ckpt.proofs.Tours.{page_left as has_page}
+use Rattle.tree_ckpt.specs.declared.work.Coming.{Coming}
 use Rattle.tree_ckpt.specs.declared.work.Held.{Held}
 use Rattle.tree_ckpt.specs.declared.work.Onward.TheVariants as onward
 use Rattle.tree_ckpt.specs.declared.work.Work.{Work}
@@ -201,11 +202,11 @@ module _ (book : Book) (order : List Entry) (s : CloudState) (stands : StandsUnd
           chart_fits book order s stands now p c.tree k.chart.tree (room_at c.tree under.tree_is) lease c
           (next_fits c root) k.chart.nodes k.apart
 
-      come_fits : (lease : Claim) (c : Chart) (page : ℕ) (low visited ids : List ℕ) → IsUnder tree lease c.tree → c.root ≡ got → Apart visited
-          → IsCome at now lease c page low visited ids → HasRoom p c × (length visited ≤ p)
-      come_fits lease c page low visited ids under root once k = (
-        rest_fits lease c ids under root k.rest,
-        visits_fit book order s stands now p c.tree k.rest.chart.tree (room_at c.tree under.tree_is) 0 page low c.key visited k.way once,
+      come_fits : (lease : Claim) (c : Coming) (ids : List ℕ) → IsUnder tree lease c.chart.tree → c.chart.root ≡ got → Apart c.visited
+          → IsCome at now lease c ids → HasRoom p c.chart × (length c.visited ≤ p)
+      come_fits lease c ids under root once k = (
+        rest_fits lease c.chart ids under root k.rest,
+        visits_fit book order s stands now p c.chart.tree k.rest.chart.tree (room_at c.chart.tree under.tree_is) 0 c.page c.low c.chart.key c.visited k.way once,
       )
 
       leaf_fits : (h : Held) (f : Folding) → IsUnder tree h.lease f.chart.tree → f.chart.root ≡ got → Apart f.visited
@@ -229,9 +230,9 @@ module _ (book : Book) (order : List Entry) (s : CloudState) (stands : StandsUnd
       work_fits (work.GettingTree l) root once k = tt
       work_fits (work.Receiving l got) root once k = tt
       work_fits (work.Descending h d) root once k = rest_fits h.lease d.chart h.deletions.ids k.0 root k.1.rest
-      work_fits (work.TakingPage h c) root once k = come_fits h.lease c.chart c.page c.low c.visited h.deletions.ids k.0 root once k.1
+      work_fits (work.TakingPage h c) root once k = come_fits h.lease c h.deletions.ids k.0 root once k.1
       work_fits (work.Folding h f) root once k = leaf_fits h f k.0 root once k.1
-      work_fits (work.ReleasingPage h l (onward.Right c)) root once k = come_fits h.lease c.chart c.page c.low c.visited h.deletions.ids k.1.0 root once k.1.1
+      work_fits (work.ReleasingPage h l (onward.Right c)) root once k = come_fits h.lease c h.deletions.ids k.1.0 root once k.1.1
       work_fits (work.ReleasingPage h l (onward.Handled c)) root once k = rest_fits h.lease c h.deletions.ids k.1.0 root k.1.1
       work_fits (work.LeftPage h o) root once k = absurd k
       work_fits (work.Rising h r) root once k = (

@@ -6,11 +6,16 @@ use Rattle.history.specs.Audited.{Audited, applied_entry}
 use Rattle.tree_phases.specs.declared.folding.Folding.{Folding}
 use Rattle.tree_phases.specs.declared.folding.Left.TheVariants.{Right, Handled}
 use Rattle.tree_phases.specs.Folding.{FoldingStep, applying}
+use Rattle.tree_ckpt.specs.declared.work.Coming.{Coming}
 use Rattle.session_facts.specs.Machines.Trees.Leaves.{KnowsRest, IsCome, IsPutting}
+
+-- the leaf on the right, to which a leaf is left
+abbrev pub right_of : Folding → List ℕ → ℕ → Coming
+right_of f low page = record { chart = f.chart; page = page; low = low; visited = f.visited }
 
 abbrev pub KnowsStep : Store → ℕ → Claim → List ℕ → FoldingStep → Type 0
 KnowsStep u now lease ids (Goes f) = IsPutting u now lease f ids
-KnowsStep u now lease ids (Ends f (Right low page)) = IsCome u now lease f.chart page low f.visited ids
+KnowsStep u now lease ids (Ends f (Right low page)) = IsCome u now lease (right_of f low page) ids
 KnowsStep u now lease ids (Ends f Handled) = KnowsRest u now lease f.chart ids
 KnowsStep u now lease ids (Stops f t) = Unit {0}
 

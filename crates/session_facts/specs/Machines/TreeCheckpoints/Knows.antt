@@ -60,7 +60,7 @@ EndsWell (Err t) = MayStopTree t
 
 -- where it goes from a leaf
 abbrev pub KnowsOnward : Store → ℕ → ℕ → Held → Onward → Type 0
-KnowsOnward st now tree h (Right c) = IsUnder tree h.lease c.chart.tree × IsCome st now h.lease c.chart c.page c.low c.visited h.deletions.ids
+KnowsOnward st now tree h (Right c) = IsUnder tree h.lease c.chart.tree × IsCome st now h.lease c h.deletions.ids
 KnowsOnward st now tree h (Handled c) = IsUnder tree h.lease c.tree × KnowsRest st now h.lease c h.deletions.ids
 
 -- no checkpoint stands between a release and where it leads
@@ -69,7 +69,7 @@ KnowsWork st now tree TakingTree = Unit {0}
 KnowsWork st now tree (GettingTree l) = OfTree tree l
 KnowsWork st now tree (Receiving l root) = OfTree tree l × KnowsRoot st now l tree (tree_held root)
 KnowsWork st now tree (Descending h d) = IsUnder tree h.lease d.chart.tree × IsGetting st now h.lease d h.deletions.ids
-KnowsWork st now tree (TakingPage h c) = IsUnder tree h.lease c.chart.tree × IsCome st now h.lease c.chart c.page c.low c.visited h.deletions.ids
+KnowsWork st now tree (TakingPage h c) = IsUnder tree h.lease c.chart.tree × IsCome st now h.lease c h.deletions.ids
 KnowsWork st now tree (Folding h f) = IsUnder tree h.lease f.chart.tree × KnowsLeaf st now h.lease f h.deletions.ids
 KnowsWork st now tree (ReleasingPage h l o) = OfPage tree l × KnowsOnward st now tree h o
 KnowsWork st now tree (LeftPage h o) = ⊥

@@ -13,6 +13,7 @@ use Rattle.tree_phases.specs.declared.kept.KeptNode.{KeptNode}
 use Rattle.tree_phases.specs.declared.link.Link.{Link as Found}
 use Rattle.tree_phases.specs.Kept.{links_at}
 use Rattle.tree_phases.specs.Read.{tree_held}
+use Rattle.tree_ckpt.specs.declared.work.Coming.{Coming}
 use Rattle.session_facts.specs.Machines.Trees.Charts.{KnowsRoot, KnowsNodes, AreFound, KnowsChart}
 use Rattle.session_facts.specs.Machines.Folds.Knows.{KnowsRun, IsLeast, IsAtLeaf, PutsPieces}
 use Rattle.session_facts.specs.Machines.Risings.Knows.{AreApart}
@@ -35,10 +36,10 @@ pub record IsGetting (st : Store) (now : ℕ) (lease : Claim) (d : Descent) (ids
   pub least : IsLeast d.chart
 
 -- a leaf was come to, for the least key of the run that is not handled
-pub record IsCome (st : Store) (now : ℕ) (lease : Claim) (c : Chart) (page : ℕ) (low : List ℕ) (visited ids : List ℕ) : Type 0 where
-  pub rest : KnowsRest st now lease c ids
-  pub way : IsOnWay (st.book.chain c.tree) 0 page low c.key visited
-  pub least : IsLeast c
+pub record IsCome (st : Store) (now : ℕ) (lease : Claim) (c : Coming) (ids : List ℕ) : Type 0 where
+  pub rest : KnowsRest st now lease c.chart ids
+  pub way : IsOnWay (st.book.chain c.chart.tree) 0 c.page c.low c.chart.key c.visited
+  pub least : IsLeast c.chart
 
 -- ---- a leaf under its lease
 

@@ -128,14 +128,14 @@ module _ (who : Caller) (before after : Seen) where
 -- ---- a read
 
 abbrev pub ReadShows : Caller → Seen → Seen → Home → List Noted → Walk → Option Value → Turn Answer → Type 0
-ReadShows who before after home buffer w value (Ended answer.Value) = ShowsValue who before after home buffer w value
+ReadShows who before after home buffer w value (Ended answer.Value) = ShowsValue who before after (own_of home buffer) w value
 ReadShows who before after home buffer w value (Ended answer.Scan) = ⊥
 ReadShows who before after home buffer w value turn = Unit {0}
 
 module _ (who : Caller) (before after : Seen) (home : Home) (buffer : List Noted) (w : Walk) (c d : Cache) where
   -- at the leaf at which a walk ended
   ended_shows : (m : Walk) (page : ℕ) → StepsWalk who before after (w, c) (m, d) (Ended page) → IsAtLeaf m d page
-      → ShowsValue who before after home buffer w (read_value m d home.client home.head buffer)
+      → ShowsValue who before after (own_of home buffer) w (read_value m d home.client home.head buffer)
   ended_shows m page steps at =
       let aim : HasAim w m = steps.aim (λ e. cc) in
       let got = steps.serves page refl in
@@ -159,15 +159,15 @@ module _ (who : Caller) (before after : Seen) (home : Home) (buffer : List Noted
   pub read_shows : (left : Work) (shown : Shown) (turn : Turn Answer) → ReadsBy who before after (in_hand home w c) (acting_of buffer left d shown) turn
       → ReadShows who before after home buffer w (value_in left shown (shown_behind left d) buffer) turn
   read_shows left shown (Ended answer.Value) (m, page, steps, at, is, some) =
-      subst (λ (v : Work). ShowsValue who before after home buffer w (value_in v shown (shown_behind v d) buffer)) (sym is)
-      (subst (λ (x : Shown). ShowsValue who before after home buffer w (value_in (Idle home) x d buffer)) (sym some) (ended_shows m page steps at))
+      subst (λ (v : Work). ShowsValue who before after (own_of home buffer) w (value_in v shown (shown_behind v d) buffer)) (sym is)
+      (subst (λ (x : Shown). ShowsValue who before after (own_of home buffer) w (value_in (Idle home) x d buffer)) (sym some) (ended_shows m page steps at))
   read_shows left shown (Ended answer.Scan) never = absurd never
   read_shows left shown turn p = tt
 
 -- ---- a scan
 
 abbrev pub ScanShows : Caller → Seen → Seen → Home → List Noted → Listing → Cache → Shown → Turn Answer → Type 0
-ScanShows who before after home buffer m c shown (Ended answer.Scan) = ShowsRecords who before after home buffer m c (items_in shown)
+ScanShows who before after home buffer m c shown (Ended answer.Scan) = ShowsRecords who before after buffer (in_hand home m c) (items_in shown)
 ScanShows who before after home buffer m c shown (Ended answer.Value) = ⊥
 ScanShows who before after home buffer m c shown turn = Unit {0}
 
@@ -217,7 +217,7 @@ module _ (who : Caller) (before after : Seen) (home : Home) (buffer : List Noted
         under (moved_on s) all (record { deed = scan_deed who m.scan steps.answer before after; behind = Some at.leaf } ∷ way.moves) (moved_range s going ∙ at.of)
         ((m.scan, c), way.came, refl, steps.made, (s, (page, steps.took, here, going, refl))) lists
 
-    ends : (all : List Pair) → Lists r home buffer (at.leaf ∷ leaves_of way.moves) all → goes_on s ≡ false → ShowsRecords who before after home buffer m c all
+    ends : (all : List Pair) → Lists r home buffer (at.leaf ∷ leaves_of way.moves) all → goes_on s ≡ false → ShowsRecords who before after buffer (in_hand home m c) all
     ends all lists over = record {
       moves = way.moves;
       came = way.came;
@@ -242,7 +242,7 @@ module _ (who : Caller) (before after : Seen) (home : Home) (buffer : List Noted
         (subst (λ (w : Work). IsKnown buffer w d) (sym is) (goes all (grown items all are all_is) going), tt)
     listed left shown (Ended answer.Scan) (all, (items, are, all_is), over, is, some) = (
       plain_known buffer left d (plain_as left (Idle home) is tt),
-      subst (λ (x : Shown). ShowsRecords who before after home buffer m c (items_in x)) (sym some) (ends all (grown items all are all_is) over),
+      subst (λ (x : Shown). ShowsRecords who before after buffer (in_hand home m c) (items_in x)) (sym some) (ends all (grown items all are all_is) over),
     )
     listed left shown (Ended (answer.Trouble t)) (memory, is, none) = (plain_known buffer left d (plain_as left (Broken home.lease) is tt), tt)
     listed left shown turn never = absurd never
@@ -268,7 +268,7 @@ module _ (who : Caller) (before after : Seen) (home : Home) (buffer : List Noted
 -- ---- a look-up
 
 abbrev pub LookShows : Caller → Seen → Seen → Home → List Noted → Look → Cache → Shown → Turn Answer → Type 0
-LookShows who before after home buffer m c shown (Ended answer.Scan) = ShowsFound who before after home buffer m c (items_in shown)
+LookShows who before after home buffer m c shown (Ended answer.Scan) = ShowsFound who before after buffer (in_hand home m c) (items_in shown)
 LookShows who before after home buffer m c shown (Ended answer.Value) = ⊥
 LookShows who before after home buffer m c shown turn = Unit {0}
 
@@ -279,7 +279,7 @@ module _ (who : Caller) (before after : Seen) (home : Home) (buffer : List Noted
       let came = step_looked (own_of home buffer) who before after (m, c) (n, d) way.calls way.visits p way.came in
       record { calls = x ∷ way.calls; visits = visited m x (leaf_by (m, c) x) way.visits; came = came }
 
-  finds : (n : Look) → StepsLook (own_of home buffer) who before after (m, c) (n, d) (Ended tt) → ShowsFound who before after home buffer m c n.pairs
+  finds : (n : Look) → StepsLook (own_of home buffer) who before after (m, c) (n, d) (Ended tt) → ShowsFound who before after buffer (in_hand home m c) n.pairs
   finds n p =
       let found = p.means m.query way.calls way.visits way.came in
       record { calls = way.calls; visits = way.visits; came = way.came; answer = p.walked.answer; made = p.walked.made; found = found }
@@ -289,7 +289,7 @@ module _ (who : Caller) (before after : Seen) (home : Home) (buffer : List Noted
   look_known left shown More (n, steps, is, none, less) = (subst (λ (w : Work). IsKnown buffer w d) (sym is) (looks_on n steps), tt)
   look_known left shown (Ended answer.Scan) (n, steps, is, some) = (
     plain_known buffer left d (plain_as left (Idle home) is tt),
-    subst (λ (x : Shown). ShowsFound who before after home buffer m c (items_in x)) (sym some) (finds n steps),
+    subst (λ (x : Shown). ShowsFound who before after buffer (in_hand home m c) (items_in x)) (sym some) (finds n steps),
   )
   look_known left shown (Ended (answer.Trouble t)) (n, steps, is, none) = (plain_known buffer left d (plain_as left (stopped_work t home) is (stopped_plain t home)), tt)
   look_known left shown turn never = absurd never

@@ -5,5 +5,6 @@ pub mod Opening
 pub mod Phase
 pub mod Session
 pub mod Settling
+pub mod InHand
 pub mod Shows
 pub mod Sweeping

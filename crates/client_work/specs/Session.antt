@@ -73,6 +73,7 @@ use Rattle.client_work.specs.declared.op.Op.TheVariants as op
 use Rattle.client_work.specs.declared.work.Work.{Work}
 use Rattle.client_work.specs.declared.work.Work.TheVariants.{Closed, Idle, Opening, Committing, Reading, Scanning, Looking, Paging, Folding, Closing, Renewing, Settling, Sweeping, Broken}
 use Rattle.client_work.specs.Causes.{CausesAt}
+pub use Rattle.client_work.specs.InHand.{InHand, in_hand}
 use Rattle.client_work.specs.Shows.{pair_of, own_of, ShowsValue, ShowsRecords, ShowsFound}
 
 -- a session: the changes that it noted, what it has in hand, what it keeps of the cloud, and what its newest operation shows beside its
@@ -85,15 +86,6 @@ pub record Acting : Type 0 where
 
 abbrev pub acting_of : List Noted → Work → Cache → Shown → Acting
 acting_of buffer work cache shown = record { buffer = buffer; work = work; cache = cache; shown = shown }
-
--- what a step of an open client has in hand: its home, the machine at work, and the cache
-pub record InHand (Machine : Type 0) : Type 0 where
-  pub home : Home
-  pub machine : Machine
-  pub cache : Cache
-
-abbrev pub in_hand : {Machine : Type 0} → Home → Machine → Cache → InHand Machine
-in_hand home machine cache = record { home = home; machine = machine; cache = cache }
 
 abbrev pub closed_session : Acting
 closed_session = record { buffer = []; work = Closed; cache = empty_cache; shown = Nothing }
@@ -657,13 +649,13 @@ items_of s = items_in s.shown
 -- the records behind the last step of a scan or of a look-up
 abbrev pub ShowsList : Caller → Seen → Seen → Acting → Acting → Type 0
 ShowsList who before after old new =
-    ((home : Home) × (m : Listing) × (old.work ≡ Scanning home m) × ShowsRecords who before after home old.buffer m old.cache (items_of new))
-    ⊎ ((home : Home) × (m : Look) × (old.work ≡ Looking home m) × ShowsFound who before after home old.buffer m old.cache (items_of new))
+    ((home : Home) × (m : Listing) × (old.work ≡ Scanning home m) × ShowsRecords who before after old.buffer (in_hand home m old.cache) (items_of new))
+    ⊎ ((home : Home) × (m : Look) × (old.work ≡ Looking home m) × ShowsFound who before after old.buffer (in_hand home m old.cache) (items_of new))
 
 -- what a session shows at the end of a read, of a scan or of a look-up, by all its calls
 abbrev pub ShowsWhole : Caller → Seen → Seen → Acting → Acting → Result (Turn Answer) Refused → Type 0
 ShowsWhole who before after old new (Ok (Ended answer.Value)) =
-    (home : Home) × (w : Walk) × (old.work ≡ Reading home w) × ShowsValue who before after home new.buffer w (value_of new)
+    (home : Home) × (w : Walk) × (old.work ≡ Reading home w) × ShowsValue who before after (own_of home new.buffer) w (value_of new)
 ShowsWhole who before after old new (Ok (Ended answer.Scan)) = ShowsList who before after old new
 ShowsWhole who before after old new result = Unit {0}
 

@@ -20,9 +20,14 @@ use Rattle.range_scan.specs.Meaning.{Range, range_of, Move, Scanned, IsServed, A
 use Rattle.range_scan.specs.Pairs.{Sight}
 use Rattle.range_scan.specs.Whole.{Listed, leaves_in, all_pairs, IsListed, IsWhole}
 use Rattle.recover_run.specs.declared.home.Home.{Home}
+use Rattle.client_work.specs.InHand.{InHand}
 use Rattle.client_work.specs.declared.listing.Listing.{Listing}
 use Rattle.client_work.specs.declared.work.Work.{Work}
 use Rattle.client_work.specs.declared.work.Work.TheVariants.{Scanning, Looking}
+
+-- what the client of a home sees beside the leaves
+abbrev pub own_of : Home → List Noted → Own
+own_of home buffer = record { client = home.client; head = home.head; buffer = buffer }
 
 -- ---- a read
 
@@ -31,13 +36,13 @@ abbrev pub read_deed : Caller → Walk → Answer → Seen → Seen → Deed
 read_deed who w answer before after = record { who = who; ask = walk_ask w; answer = answer; before = before; after = after }
 
 -- the value behind the last step of a read: what its client sees of the key in a leaf whose range holds it, as this step's own call served it
-pub record ShowsValue (who : Caller) (before after : Seen) (home : Home) (buffer : List Noted) (w : Walk) (value : Option Value) : Type 0 where
+pub record ShowsValue (who : Caller) (before after : Seen) (own : Own) (w : Walk) (value : Option Value) : Type 0 where
   pub answer : Answer
   pub made : IsMade (read_deed who w answer before after)
   pub leaf : Leaf
   pub served : IsServed w.tree (read_deed who w answer before after) leaf
   pub holds_key : holds leaf (sought w) ≡ true
-  pub value_is : value ≡ seen leaf w.tree (sought w) home.client home.head buffer
+  pub value_is : value ≡ seen leaf w.tree (sought w) own.client own.head own.buffer
 
 -- ---- a scan
 
@@ -74,24 +79,20 @@ scan_deed who s answer before after = record { who = who; ask = scan_ask s; answ
 -- The records behind the last step of a scan: those of its leaves, each as a call of this scan served it, the last one by this step's own. The
 -- first leaf has the first key, each next one begins where the one before it ends, and nothing that is asked for is behind the last. So each key
 -- is there once, in ascending order, with the payload that the client sees in the leaf whose range has it, and no other.
-pub record ShowsRecords (who : Caller) (before after : Seen) (home : Home) (buffer : List Noted) (m : Listing) (c : Cache) (records : List Pair) : Type 0 where
+pub record ShowsRecords (who : Caller) (before after : Seen) (buffer : List Noted) (held : InHand Listing) (records : List Pair) : Type 0 where
   pub moves : List Move
-  pub came : Scanned (range_of m.scan) moves (m.scan, c)
+  pub came : Scanned (range_of held.machine.scan) moves (held.machine.scan, held.cache)
   pub answer : Answer
-  pub made : IsMade (scan_deed who m.scan answer before after)
+  pub made : IsMade (scan_deed who held.machine.scan answer before after)
   pub leaf : Leaf
-  pub served : IsServed (range_of m.scan).tree (scan_deed who m.scan answer before after) leaf
-  pub earlier : AreServed (range_of m.scan).tree moves
-  pub meeting : AreMeeting (range_of m.scan) (leaf ∷ leaves_of moves)
-  pub last : IsPast (range_of m.scan).to leaf.high
-  pub lists : Lists (range_of m.scan) home buffer (leaf ∷ leaves_of moves) records
+  pub served : IsServed (range_of held.machine.scan).tree (scan_deed who held.machine.scan answer before after) leaf
+  pub earlier : AreServed (range_of held.machine.scan).tree moves
+  pub meeting : AreMeeting (range_of held.machine.scan) (leaf ∷ leaves_of moves)
+  pub last : IsPast (range_of held.machine.scan).to leaf.high
+  pub lists : Lists (range_of held.machine.scan) held.home buffer (leaf ∷ leaves_of moves) records
   pub whole : IsWhole lists.listed
 
 -- ---- a look-up
-
--- what the client of a home sees beside the leaves
-abbrev pub own_of : Home → List Noted → Own
-own_of home buffer = record { client = home.client; head = home.head; buffer = buffer }
 
 -- a look-up in hand came from its begin by some calls, and by these its walks ended at some leaves
 pub record IsLooking (home : Home) (buffer : List Noted) (m : Look) (c : Cache) : Type 0 where
@@ -105,14 +106,15 @@ look_deed who l answer before after = record { who = who; ask = look_ask l; answ
 
 -- The records behind the last step of a look-up: those found in the leaves at which its walks ended, each as a call of this look-up served it, the last
 -- one by this step's own.
-pub record ShowsFound (who : Caller) (before after : Seen) (home : Home) (buffer : List Noted) (m : Look) (c : Cache) (records : List Pair) : Type 0 where
+pub record ShowsFound (who : Caller) (before after : Seen) (buffer : List Noted) (held : InHand Look) (records : List Pair) : Type 0 where
   pub calls : List Deed
   pub visits : List Visit
-  pub came : Looked m.query (own_of home buffer) calls visits (m, c)
+  pub came : Looked held.machine.query (own_of held.home buffer) calls visits (held.machine, held.cache)
   pub answer : Answer
-  pub made : IsMade (look_deed who m answer before after)
-  pub found : IsFound m.query (own_of home buffer)
-      (visited m (look_deed who m answer before after) (leaf_by (m, c) (look_deed who m answer before after)) visits) records
+  pub made : IsMade (look_deed who held.machine answer before after)
+  pub found :
+      (let call : Deed = look_deed who held.machine answer before after
+      in IsFound held.machine.query (own_of held.home buffer) (visited held.machine call (leaf_by (held.machine, held.cache) call) visits) records)
 
 -- ---- what holds of a session at any time
 

@@ -2,8 +2,8 @@
 -- committed.
 use Rattle.std.specs.Prelude.{ℕ, ◌≡◌, ◌⊎◌, List, [], unwrap_or}
 use Rattle.attr_index.specs.Look.{Look}
-use Rattle.client_work.specs.Session.{Acting, value_of, items_of}
-use Rattle.client_work.specs.Shows.{ShowsValue, ShowsRecords, ShowsFound}
+use Rattle.client_work.specs.Session.{Acting, in_hand, value_of, items_of}
+use Rattle.client_work.specs.Shows.{own_of, ShowsValue, ShowsRecords, ShowsFound}
 use Rattle.client_work.specs.declared.answer.Answer.{Answer}
 use Rattle.client_work.specs.declared.answer.Answer.TheVariants as answer
 use Rattle.client_work.specs.declared.listing.Listing.{Listing}
@@ -50,7 +50,7 @@ pub record ReadsByLines (lines : List Line) (t : CloudState) (who : Caller) (bef
   pub home : Home
   pub walk : Walk
   pub was : before.session.work ≡ work.Reading home walk
-  pub shows : ShowsValue who before.seen after.seen home after.session.buffer walk (value_of after.session)
+  pub shows : ShowsValue who before.seen after.seen (own_of home after.session.buffer) walk (value_of after.session)
   pub by : IsByLines lines t who.session (Reading walk.tree (sought walk)) home after.session.buffer
 
 -- the scan of a range, as a task
@@ -62,7 +62,7 @@ pub record ScansByLines (lines : List Line) (t : CloudState) (who : Caller) (bef
   pub home : Home
   pub listing : Listing
   pub was : before.session.work ≡ work.Scanning home listing
-  pub shows : ShowsRecords who before.seen after.seen home before.session.buffer listing before.session.cache (items_of after.session)
+  pub shows : ShowsRecords who before.seen after.seen before.session.buffer (in_hand home listing before.session.cache) (items_of after.session)
   pub by : IsByLines lines t who.session (scan_task (range_of listing.scan)) home before.session.buffer
 
 -- and a look-up with the records that it found at the ends of its walks
@@ -70,7 +70,7 @@ pub record LooksByLines (lines : List Line) (t : CloudState) (who : Caller) (bef
   pub home : Home
   pub look : Look
   pub was : before.session.work ≡ work.Looking home look
-  pub shows : ShowsFound who before.seen after.seen home before.session.buffer look before.session.cache (items_of after.session)
+  pub shows : ShowsFound who before.seen after.seen before.session.buffer (in_hand home look before.session.cache) (items_of after.session)
   pub by : IsByLines lines t who.session (LookingUp look.query.tree look.query.attr) home before.session.buffer
 
 -- a step that ends a read, a scan or a look-up shows it so, over the state before its call

@@ -20,7 +20,7 @@ use Rattle.settle_run.specs.declared.settled.Settled.{Settled}
 use Rattle.settle_run.specs.Parts.{part_ask, part_again, part_received, PartLeads, PartWent}
 use Rattle.settle_run.specs.Settling.{Settling, new_settling, settle_ask, SettleLeads, KeepsSettling, passed, is_visited}
 use Rattle.settle_run.specs.Leases.{AreReturned}
-use Rattle.settle_run.specs.Stepped.{PartStepped}
+use Rattle.settle_run.specs.Stepped.{part_deed, PartStepped}
 use Rattle.tree_ckpt.specs.Making.{Making}
 
 -- the settling came here from its first call on by these calls, the newest first
@@ -193,7 +193,7 @@ pub record Stepped (who : Caller) (before after : Seen) (old new : Settling) (tu
   pub did : Steps settle_ask SettleLeads KeepsSettling who before after old new turn
   pub part : Part
   pub part_turn : Turn ℕ
-  pub stepped : PartStepped who before after old.part did.answer part part_turn
+  pub stepped : PartStepped (part_deed who old.part did.answer before after) old.part part part_turn
   pub follows : Follows old (next_of part part_turn) turn
   pub tells : Tells old did.answer turn
   pub exact : StopsExactly old did.answer turn

@@ -259,7 +259,8 @@ look_moves own old new (Stopped u) a walk (Stopped t) took goes = λ other.
 
 pub meant : (own : Own) (who : Caller) (before after : Seen) (old new : Look × Cache) (turn : Turn (Unit {0})) (walk : Walk × Cache) (moved : Turn ℕ)
     → (walked : StepsWalk who before after (old.0.walk, old.1) walk moved) → Moves (walked_by old.0 own walk moved) new turn
-    → (q : Query) (h : List Deed) (vs : List Visit) → Looked q own h vs old → Means q own (deed_of who old walked.answer before after) old new vs turn
+    → (q : Query) (h : List Deed) (vs : List Visit) → Looked q own h vs old
+    → (let d : Deed = deed_of who old walked.answer before after in Means q own (visited old.0 d (leaf_by old d) vs) new.0 turn)
 meant own who before after old new turn walk moved walked goes q h vs came =
     on turn (look_moves own old new turn walked.answer walk moved walked.took goes)
   where
@@ -269,7 +270,7 @@ meant own who before after old new turn walk moved walked goes q h vs came =
     leads : Leads q own (visited old.0 d (leaf_by old d) vs) (look_next own old d.answer)
     leads = next_leads q own vs old d (looked_holds q own h vs old came) refl walked.made
 
-    on : (t : Turn (Unit {0})) → Moves (look_next own old walked.answer) new t → Means q own d old new vs t
+    on : (t : Turn (Unit {0})) → Moves (look_next own old walked.answer) new t → Means q own (visited old.0 d (leaf_by old d) vs) new.0 t
     on More is =
         let stays : Holds q own (visited old.0 d (leaf_by old d) vs) new.0 = subst (Leads q own (visited old.0 d (leaf_by old d) vs)) is leads in
         stays.query

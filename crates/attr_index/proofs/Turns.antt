@@ -108,7 +108,7 @@ look_stepped own who before after old new w moved turn walked at goes on apart =
       means = meant own who before after old new turn w moved walked goes;
       tagged = λ ended q h vs came.
           finds_tagged q own (visited old.0 d (leaf_by old d) vs) new.0.pairs apart
-          (subst (Means q own d old new vs) ended (meant own who before after old new turn w moved walked goes q h vs came));
+          (subst (Means q own (visited old.0 d (leaf_by old d) vs) new.0) ended (meant own who before after old new turn w moved walked goes q h vs came));
     }
 
 -- .. from which it goes on with fewer calls left

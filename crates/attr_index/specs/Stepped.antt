@@ -22,11 +22,11 @@ KeepsServed m a n = ServesOn m.1 n.1
 abbrev pub deed_of : Caller → Look × Cache → Answer → Seen → Seen → Deed
 deed_of who old answer before after = record { who = who; ask = look_ask old.0; answer = answer; before = before; after = after }
 
--- what a step means by the calls that led to it: at its end the records are found in the leaves of its walks, the last of which this call brought
-abbrev pub Means : Query → Own → Deed → Look × Cache → Look × Cache → List Visit → Turn (Unit {0}) → Type 0
-Means q own d old new vs More = new.0.query ≡ q
-Means q own d old new vs (Ended done) = IsFound q own (visited old.0 d (leaf_by old d) vs) new.0.pairs
-Means q own d old new vs (Stopped t) = Unit {0}
+-- what a step means by the visits to which its call led: at its end the records are found in the leaves of these, the last of which the call brought
+abbrev pub Means : Query → Own → List Visit → Look → Turn (Unit {0}) → Type 0
+Means q own vs new More = new.query ≡ q
+Means q own vs new (Ended done) = IsFound q own vs new.pairs
+Means q own vs new (Stopped t) = Unit {0}
 
 pub record Stepped (own : Own) (who : Caller) (before after : Seen) (old new : Look × Cache) (turn : Turn (Unit {0})) : Type 0 where
   -- the step of its walk, with all that a walk's step says: its call, where it led, why it stopped and when it has to
@@ -41,7 +41,8 @@ pub record Stepped (own : Own) (who : Caller) (before after : Seen) (old new : L
   pub took : Took (LeadsBy (look_next own)) KeepsServed old walked.answer new turn
   pub served : ServesOn old.1 new.1
   -- by the whole run
-  pub means : (q : Query) (h : List Deed) (vs : List Visit) → Looked q own h vs old → Means q own (deed_of who old walked.answer before after) old new vs turn
+  pub means : (q : Query) (h : List Deed) (vs : List Visit) → Looked q own h vs old
+      → (let d : Deed = deed_of who old walked.answer before after in Means q own (visited old.0 d (leaf_by old d) vs) new.0 turn)
   -- .. and at its end the records found are all that have the attribute, where everything is still
   pub tagged : turn ≡ Ended tt → (q : Query) (h : List Deed) (vs : List Visit) → Looked q own h vs old
       → (let d : Deed = deed_of who old walked.answer before after in FindsTagged q own (visited old.0 d (leaf_by old d) vs) new.0.pairs)

@@ -34,7 +34,7 @@ use Rattle.recover_run.specs.Recovery.{Recovery}
 use Rattle.recover_run.specs.Leases.{Went as RecoveryWent}
 use Rattle.recover_run.specs.Stepped.{Means as RecoveryMeans, Stepped as StepsRecovery}
 use Rattle.commit_run.specs.Run.{Run, asks as run_asks}
-use Rattle.commit_run.specs.Stepped.{Whole, Stepped as StepsRun}
+use Rattle.commit_run.specs.Stepped.{course_of, Whole, Stepped as StepsRun}
 use Rattle.commit_run.specs.Within.{Went as RunWent}
 use Rattle.attr_index.specs.Look.{Own, Look}
 use Rattle.attr_index.specs.Stepped.{Stepped as StepsLook}
@@ -167,7 +167,7 @@ pub record CommitCauses (who : Caller) (before after : Seen) (old new : Run × C
   pub some : 1 ≤ length changes
   pub went : RunWent home changes first earlier old
   pub stepped : StepsRun who before after old new turn
-  pub whole : Whole home changes first earlier (deed_by who (run_asks old) stepped.answer before after) old new turn
+  pub whole : Whole (course_of home changes first earlier) (deed_by who (run_asks old) stepped.answer before after) old new turn
 
 -- of a read: its trouble this answer shows, or what the cache keeps with it; and what led to the page in hand one of its calls got, or it was there
 -- when the read began

@@ -37,7 +37,7 @@ use Rattle.commit_run.specs.CallDemands.{IsOfCalls, StopsIn, Exact, IsRefusing, 
 use Rattle.commit_run.specs.Meaning.{IsRefused, Refuses}
 use Rattle.commit_run.specs.Leases.{Names}
 use Rattle.commit_run.specs.Plain.{IsPlain}
-use Rattle.commit_run.specs.Stepped.{MeansWrites, MeansIn, Whole, Stepped}
+use Rattle.commit_run.specs.Stepped.{course_of, MeansWrites, MeansIn, Whole, Stepped}
 use Rattle.commit_run.specs.Calm.{IsMet, IsWell, EndsWell}
 use Rattle.commit_run.proofs.Words.{Trouble, CommitAnswer, NotCommitted, AtomicRec, Noted, Answer, Turn, More, Stopped, Ask, Get, Next, Goes, Ends, Stops, LeadsBy, Took, Deed, Home, Cache, LinkShows, Walk, new_walk, walk_ask, walk_next, Stage, Waiting, Logging, Opening, Sending, Settling, Deleting, Finished, Writing, waiting, is_spent, writing_ask, Calls, told, routed_length, Hand, Writes, First, Change, Draft, new_draft, pruned_behind, Run, held, new_run, home_of, asks, ask_at, target_of, written, refused, troubled, by_turn, is_stale, stale_at, walk_turned, walked, begin_walks, run_ready, run_next, Led, KeepsHome, walked_home, MeansWalks, left_by_turn, Trip, uses_of, Went, GetsNothing}
 use Rattle.commit_run.proofs.Causes.{Shown, WalkCause, walked_shown, write_causes, walk_causes, ready_causes}
@@ -367,7 +367,7 @@ ends_more (Stopped t) well = well
 -- of the walk in hand
 walk_whole : (home : Home) (changes : List Noted) (begin : Cache) (h : List Deed) (first : Bool) (d : Draft) (w : Walk) (c : Cache) (who : Caller) (before after : Seen) (a : Answer) (n : Run × Cache) (turn : Turn CommitAnswer)
     → Makes who (walk_ask w) a before after → Took (LeadsBy run_next) KeepsHome (record { draft = d; hand = held first w }, c) a n turn → KnowsHeld home changes begin (told h) d first (w, c)
-    → (IsPlain home changes → ⊥) → Whole home changes begin h (deed_of who (asks (record { draft = d; hand = held first w }, c)) a before after) (record { draft = d; hand = held first w }, c) n turn
+    → (IsPlain home changes → ⊥) → Whole (course_of home changes begin h) (deed_of who (asks (record { draft = d; hand = held first w }, c)) a before after) (record { draft = d; hand = held first w }, c) n turn
 walk_whole home changes begin h first d w c who before after a n turn made took k walks = record {
   means = in_hand first means;
   exact = λ some. walk_exact home changes begin h first d w c a n turn made.fits took k ended_not;
@@ -383,7 +383,7 @@ walk_whole home changes begin h first d w c who before after a n turn made took 
   ended_not = not_by home changes begin (told h ++ (walk_ask w, a) ∷ []) (home_of n.0) turn means
 
   in_hand : (b : Bool) → MeansWalks home changes begin (told h ++ (walk_ask w, a) ∷ []) (home_of n.0) turn
-      → MeansIn (held b w) home changes begin h (deed_of who (asks (record { draft = d; hand = held b w }, c)) a before after) d.writes (home_of n.0) turn
+      → MeansIn (held b w) (course_of home changes begin h) (deed_of who (asks (record { draft = d; hand = held b w }, c)) a before after) d.writes (home_of n.0) turn
   in_hand true m = m
   in_hand false m = m
 
@@ -410,7 +410,7 @@ walk_stepped first d w c who before after a n turn made took demands = record {
 -- of what is written
 write_whole : (home : Home) (changes : List Noted) (begin : Cache) (h : List Deed) (d : Draft) (c : Cache) (who : Caller) (before after : Seen) (w : Writing) (turn : Turn CommitAnswer)
     (s : WritesStepped who before after d.writes w turn) → Went home changes begin h (record { draft = d; hand = Writes }, c)
-    → Whole home changes begin h (deed_of who (writing_ask d.writes) s.answer before after) (record { draft = d; hand = Writes }, c) (written d w, c) turn
+    → Whole (course_of home changes begin h) (deed_of who (writing_ask d.writes) s.answer before after) (record { draft = d; hand = Writes }, c) (written d w, c) turn
 write_whole home changes begin h d c who before after w turn s went = record {
   means = so;
   exact = λ some x of. exact_behind home changes begin h d.writes s.answer turn k x (s.exact from k.begun_so.records k.later (writes_went home changes begin h d.writes some k) x);
@@ -429,7 +429,7 @@ write_whole home changes begin h d c who before after w turn s went = record {
   same : k.begun_so.records ≡ d.writes.records
   same = sym (same_records home changes begin h d.writes k)
 
-  so : MeansWrites home changes begin h call d.writes w.home turn
+  so : MeansWrites (course_of home changes begin h) call d.writes w.home turn
   so = record {
     writing = writing_so home changes begin h d.writes k;
     means =

@@ -13,7 +13,7 @@ use Rattle.commit_writes.proofs.Within.{length_told}
 use Rattle.commit_run.specs.Run.{next_at}
 use Rattle.commit_run.specs.Meaning.{home_in}
 use Rattle.commit_run.specs.Plain.{IsPlainChange, IsPlain, GoesPlainly}
-use Rattle.commit_run.specs.Stepped.{MeansWrites}
+use Rattle.commit_run.specs.Stepped.{course_of, MeansWrites}
 use Rattle.commit_run.specs.Within.{IsNoGet}
 use Rattle.commit_run.proofs.Words.{CommitAnswer, Pending, AtomicRec, Noted, Answer, Turn, Ask, Next, Goes, Ends, Stops, LeadsBy, Came, Deed, Home, Cache, Walk, page_without, pages_of, Writing, writing_ask, writing_next, Calls, told, routed_length, Hand, Writes, First, Change, Draft, Run, held, new_run, long_target, wrote, asks, ask_at, run_ready, run_next, Went, GetsNothing}
 use Rattle.commit_run.proofs.Groups.{no_get}
@@ -136,7 +136,7 @@ none_behind [] first none = none
 none_behind (x ∷ later) first none = none_behind later first none.1
 
 pub goes_plainly : (home : Home) (changes : List Noted) (c : Cache) (h : List Deed) (d : Draft) (k : Cache) (call : Deed) (left : Home) (turn : Turn CommitAnswer) → IsPlain home changes
-    → Went home changes c h (record { draft = d; hand = Writes }, k) → call.ask ≡ writing_ask d.writes → (so : MeansWrites home changes c h call d.writes left turn) → GoesPlainly changes (call ∷ h) turn
+    → Went home changes c h (record { draft = d; hand = Writes }, k) → call.ask ≡ writing_ask d.writes → (so : MeansWrites (course_of home changes c h) call d.writes left turn) → GoesPlainly changes (call ∷ h) turn
 goes_plainly home changes c h d k call left turn plain went asked so = record {
   none = (subst GetsNothing (sym asked) (no_get d.writes.stage d.writes), none);
   calls = λ x ended. all_calls x (subst (MeansTurn (home_in so.writing) d.writes.records (told (call ∷ so.writing.later)) left) ended so.means);

@@ -24,7 +24,7 @@ use Rattle.tree_phases.specs.Plan.{leaf_plan}
 use Rattle.tree_phases.specs.Folding as fold
 use Rattle.tree_ckpt.specs.Causes.{Calls, WasGot, GoesRight}
 use Rattle.tree_ckpt.specs.Meaning.{Opening}
-use Rattle.tree_ckpt.specs.Working.{done_over, puts_of, Visit, held_over, visits_over, AreLooks, HoldsLeaf, IsLeft, IsFor, IsVisit, Place, leaf_place, IsLeftFor, IsStart, IsCome, IsWay, IsOver, IsAmong, root_behind, links_behind, looks_of, AreVisits, lacked_on, IsSettled, PutsLeaf, AreTurns, Outcome, Planned, Spared, Passed}
+use Rattle.tree_ckpt.specs.Working.{done_over, puts_of, Visit, held_over, visits_over, AreLooks, HoldsLeaf, IsLeft, IsFor, IsVisit, Place, leaf_place, IsLeftFor, IsStart, IsCome, seeking, IsWay, IsOver, IsAmong, root_behind, links_behind, looks_of, AreVisits, lacked_on, IsSettled, PutsLeaf, AreTurns, Outcome, Planned, Spared, Passed}
 use Rattle.tree_ckpt.proofs.Words.{Trouble, PuItem, Taken, Answer, Claim, Next, Goes, Ends, Stops, got_of, done_of, Ask, PagePut, Chart, KeptNode, Placing, Link, Descent, Folding, Left, PagePlan}
 use Rattle.tree_ckpt.proofs.Answers.{done_is}
 use Rattle.tree_ckpt.proofs.Brought.{AreKept, kept_more}
@@ -73,7 +73,7 @@ pub record Tours (lease : Claim) (tree : ℕ) (run : Taken) (stood : Option (Lis
   pub rests : Rests lease tree run stood count from known olds o before
   pub turns : List Link
   pub turned : AreTurns tree work turns
-  pub come : IsCome tree stood key work rests.visits turns place
+  pub come : IsCome stood (seeking tree key work) rests.visits turns place
   pub linked : found ≡ known ++ turns
   pub least : IsLeast run.items from key
   pub looks : Calls
@@ -392,9 +392,9 @@ module _ (lease : Claim) (f : Folding) (got : Option (List ℕ)) (l : Leaf) (o :
       subst (λ (root : Option (List ℕ)). IsStart root f.chart.key k.tours.rests.visits k.tours.come.0) k.tours.rests.root k.tours.come.1,
       (
         k.tours.come.2.0,
-        subst (λ (low : List ℕ). IsWay f.chart.tree f.chart.key (k.tours.looks ++ visits_over f.chart.tree lease k.tours.rests.visits []) k.tours.come.0 k.tours.come.2.0
+        subst (λ (low : List ℕ). IsWay (seeking f.chart.tree f.chart.key (k.tours.looks ++ visits_over f.chart.tree lease k.tours.rests.visits [])) k.tours.come.0 k.tours.come.2.0
             (leaf_place low f.page) k.tours.turns) (sym same_low)
-            (subst (λ (cs : Calls). IsWay f.chart.tree f.chart.key cs k.tours.come.0 k.tours.come.2.0 (leaf_place f.low f.page) k.tours.turns) tour_calls k.tours.come.2.1),
+            (subst (λ (cs : Calls). IsWay (seeking f.chart.tree f.chart.key cs) k.tours.come.0 k.tours.come.2.0 (leaf_place f.low f.page) k.tours.turns) tour_calls k.tours.come.2.1),
       ),
     );
     over = λ page bytes h. now_over bytes k.tours.come.2.0 (k.tours.over page bytes h);

@@ -11,7 +11,7 @@ use Rattle.tree_phases.specs.declared.fork.Fork.TheVariants.{Right, Down}
 use Rattle.tree_phases.specs.Descent.{begun, passed, arrive, with_node}
 use Rattle.tree_ckpt.specs.Moves.{entry_or, root_entry}
 use Rattle.tree_ckpt.specs.Causes.{Calls, WasGot, WasNode}
-use Rattle.tree_ckpt.specs.Working.{IsAmong, AreTurns, Place, below_root, link_to, LeadsOn, IsWay}
+use Rattle.tree_ckpt.specs.Working.{IsAmong, AreTurns, Place, below_root, link_to, LeadsOn, seeking, IsWay}
 use Rattle.tree_ckpt.proofs.Words.{Answer, Next, Goes, Ends, Stops, Ask, Chart, KeptNode, Link, Descent, Fork}
 use Rattle.tree_ckpt.proofs.Brought.{AreKept, kept_with, kept_node}
 use Rattle.tree_ckpt.proofs.WayOutcomes.{Leads, Arrives, arrives}
@@ -30,8 +30,8 @@ turns_both tree (x ∷ xs) ys cs h k = (h.0, turns_both tree xs ys cs h.1 k)
 -- ---- ways
 
 -- a call more
-pub way_more : (tree : ℕ) (key : List ℕ) (start : Place) (ns : List Inner) (q : Place) (turns : List Link) (c : Ask × Answer) (cs : Calls) → IsWay tree key cs start ns q turns
-    → IsWay tree key (c ∷ cs) start ns q turns
+pub way_more : (tree : ℕ) (key : List ℕ) (start : Place) (ns : List Inner) (q : Place) (turns : List Link) (c : Ask × Answer) (cs : Calls) → IsWay (seeking tree key cs) start ns q turns
+    → IsWay (seeking tree key (c ∷ cs)) start ns q turns
 way_more tree key start [] q turns c cs h = h
 way_more tree key start (n ∷ ns) q turns c cs h =
     (h.0, h.1, way_more tree key start ns h.0 h.1 c cs h.2, (h.3.0, h.3.1, inr h.3.2), h.4, h.5, h.6)
@@ -44,10 +44,10 @@ leads_behind key n level first before q turns (inr h) = inr (h.0, h.1, ap (λ (l
 
 -- one way behind another
 pub way_both : (tree : ℕ) (key : List ℕ) (cs : Calls) (start : Place) (ms : List Inner) (p : Place) (first : List Link) (ns : List Inner) (q : Place) (turns : List Link)
-    → IsWay tree key cs start ms p first → IsWay tree key cs p ns q turns → IsWay tree key cs start (ns ++ ms) q (first ++ turns)
+    → IsWay (seeking tree key cs) start ms p first → IsWay (seeking tree key cs) p ns q turns → IsWay (seeking tree key cs) start (ns ++ ms) q (first ++ turns)
 way_both tree key cs start ms p first [] q turns h k =
-    subst (λ (x : Place). IsWay tree key cs start ms x (first ++ turns)) (sym k.0)
-    (subst (λ (ls : List Link). IsWay tree key cs start ms p ls) (sym (append-nil first) ∙ ap (λ (ls : List Link). first ++ ls) (sym k.1)) h)
+    subst (λ (x : Place). IsWay (seeking tree key cs) start ms x (first ++ turns)) (sym k.0)
+    (subst (λ (ls : List Link). IsWay (seeking tree key cs) start ms p ls) (sym (append-nil first) ∙ ap (λ (ls : List Link). first ++ ls) (sym k.1)) h)
 way_both tree key cs start ms p first (n ∷ ns) q turns h k =
     (k.0, first ++ k.1, way_both tree key cs start ms p first ns k.0 k.1 h k.2, k.3, k.4, k.5, leads_behind key n k.0.level first k.1 q turns k.6)
 
@@ -69,7 +69,7 @@ module _ (tree : ℕ) (cs : Calls) (links : List Link) (nodes : List KeptNode) (
     pub linked : d.chart.links ≡ links ++ rest
     pub are : AreTurns tree cs rest
     pub over : List Inner
-    pub way : IsWay tree key cs start over (place_of d) rest
+    pub way : IsWay (seeking tree key cs) start over (place_of d) rest
     pub seen : (n : Inner) → IsAmong n first → IsAmong n over
 
   -- where it goes on, and where it ends at a leaf

@@ -13,7 +13,7 @@ use Rattle.cloud_trait.specs.Ask.{GetHeld, PutHeld, Take, Release}
 use Rattle.tree_ckpt.specs.Moves.{entry_or}
 use Rattle.tree_phases.specs.Read.{tree_held}
 use Rattle.tree_ckpt.specs.Causes.{Calls, WasGot, WasNode}
-use Rattle.tree_ckpt.specs.Working.{Place, child_place, below_root, leaf_place, link_to, LeadsOn, IsWay, IsLeftFor, IsStart, IsCome, Visit, Outcome, Planned, Spared, Passed, IsVisit, AreVisits, IsAmong, IsOver, node_place, IsUnder, IsFollowed, HoldsLeaf, IsLeft, IsFor, placing_of, root_behind, looks_of, visits_over, done_over, page_puts, reserved_before, Climb, AreClimbs, root_above}
+use Rattle.tree_ckpt.specs.Working.{Place, child_place, below_root, leaf_place, link_to, LeadsOn, seeking, IsWay, IsLeftFor, IsStart, IsCome, Visit, Outcome, Planned, Spared, Passed, IsVisit, AreVisits, IsAmong, IsOver, node_place, IsUnder, IsFollowed, HoldsLeaf, IsLeft, IsFor, placing_of, root_behind, looks_of, visits_over, done_over, page_puts, reserved_before, Climb, AreClimbs, root_above}
 use Rattle.tree_ckpt.proofs.Words.{ObjName, Taken, Answer, Claim, Ask, PagePut, Link}
 use Rattle.tree_ckpt.proofs.Entries.{among_either}
 use Rattle.tree_ckpt.proofs.Named.{same_node}
@@ -74,12 +74,12 @@ module _ (tree : ℕ) (key : List ℕ) (cs : Calls) (root : Tree) where
       } in
       subst Lies (sym h.1) lies
 
-  way_lies : (start : Place) (ns : List Inner) (q : Place) (turns : List Link) → Lies start → IsWay tree key cs start ns q turns → Lies q
+  way_lies : (start : Place) (ns : List Inner) (q : Place) (turns : List Link) → Lies start → IsWay (seeking tree key cs) start ns q turns → Lies q
   way_lies start [] q turns k h = subst Lies (sym h.0) k
   way_lies start (n ∷ ns) q turns k h =
       lies_on n h.0 q h.1 turns (way_lies start ns h.0 h.1 k h.2) (node_sound h.3.0 n h.3.1) h.3 h.4 h.5 h.6
 
-  turns_under : (start : Place) (ns : List Inner) (q : Place) (turns : List Link) (l : Link) → Lies start → IsWay tree key cs start ns q turns → IsAmong l turns
+  turns_under : (start : Place) (ns : List Inner) (q : Place) (turns : List Link) (l : Link) → Lies start → IsWay (seeking tree key cs) start ns q turns → IsAmong l turns
       → IsUnder tree root cs l
   turns_under start [] q turns l k h g = absurd (subst (λ (ls : List Link). IsAmong l ls) h.1 g)
   turns_under start (n ∷ ns) q turns l k h g =
@@ -113,7 +113,7 @@ other_page tree root cs l m level low (inr h) = inr (
 
 -- each node that a way led over
 over_under : (tree : ℕ) (key : List ℕ) (cs : Calls) (root : Tree) (start : Place) (ns : List Inner) (q : Place) (turns : List Link) (page : ℕ) (n : Inner)
-    → Lies tree key cs root start → IsWay tree key cs start ns q turns → IsAmong n ns → IsUnder tree root cs (link_to (node_place page n))
+    → Lies tree key cs root start → IsWay (seeking tree key cs) start ns q turns → IsAmong n ns → IsUnder tree root cs (link_to (node_place page n))
 over_under tree key cs root start [] q turns page n k h g = absurd g
 over_under tree key cs root start (m ∷ ns) q turns page n k h (inr g) = over_under tree key cs root start ns h.0 h.1 page n k h.2 g
 over_under tree key cs root start (m ∷ ns) q turns page n k h (inl same) =
@@ -206,7 +206,7 @@ module _ (tree : ℕ) (one : Claim) (run : Taken) (got : Option (List ℕ)) wher
 
   -- a way over nodes that were got is one over nodes that were got on ways down
   way_by : (key : List ℕ) (cs ds : Calls) → ((page : ℕ) (n : Inner) → WasNode tree page n cs → WasNode tree page n ds) → (start : Place) (ns : List Inner) (q : Place) (turns : List Link)
-      → IsWay tree key cs start ns q turns → IsWay tree key ds start ns q turns
+      → IsWay (seeking tree key cs) start ns q turns → IsWay (seeking tree key ds) start ns q turns
   way_by key cs ds into start [] q turns h = h
   way_by key cs ds into start (n ∷ ns) q turns h = (h.0, h.1, way_by key cs ds into start ns h.0 h.1 h.2, into h.0.page n h.3, h.4, h.5, h.6)
 
@@ -278,7 +278,7 @@ module _ (tree : ℕ) (one : Claim) (run : Taken) (got : Option (List ℕ)) wher
     newest_lies : (vs : List Visit) → AreVisits tree one run got vs → Newest_lies vs
     newest_lies [] are = tt
     newest_lies (v ∷ vs) are =
-        let come : IsCome tree (root_behind got vs) v.key (v.looks ++ visits_over tree one vs []) vs v.turns (leaf_place v.leaf.low v.page) = are.0.come in
+        let come : IsCome (root_behind got vs) (seeking tree v.key (v.looks ++ visits_over tree one vs [])) vs v.turns (leaf_place v.leaf.low v.page) = are.0.come in
         way_lies tree v.key (looks_of (v ∷ vs)) root come.0 come.2.0 (leaf_place v.leaf.low v.page) v.turns
         (start_lies v.key vs come.0 v.looks are.1 (newest_lies vs are.1) come.1)
         (way_by v.key (v.looks ++ visits_over tree one vs []) (looks_of (v ∷ vs)) (looks_into v vs are.1) come.0 come.2.0 (leaf_place v.leaf.low v.page) v.turns come.2.1)
@@ -295,7 +295,7 @@ module _ (tree : ℕ) (one : Claim) (run : Taken) (got : Option (List ℕ)) wher
 
     turn_under : (v : Visit) (vs : List Visit) (l : Link) → AreVisits tree one run got (v ∷ vs) → IsAmong l v.turns → IsUnder tree root (looks_of (v ∷ vs)) l
     turn_under v vs l are h =
-        let come : IsCome tree (root_behind got vs) v.key (v.looks ++ visits_over tree one vs []) vs v.turns (leaf_place v.leaf.low v.page) = are.0.come in
+        let come : IsCome (root_behind got vs) (seeking tree v.key (v.looks ++ visits_over tree one vs [])) vs v.turns (leaf_place v.leaf.low v.page) = are.0.come in
         turns_under tree v.key (looks_of (v ∷ vs)) root come.0 come.2.0 (leaf_place v.leaf.low v.page) v.turns l
         (start_lies v.key vs come.0 v.looks are.1 (newest_lies vs are.1) come.1)
         (way_by v.key (v.looks ++ visits_over tree one vs []) (looks_of (v ∷ vs)) (looks_into v vs are.1) come.0 come.2.0 (leaf_place v.leaf.low v.page) v.turns come.2.1) h
@@ -328,7 +328,7 @@ module _ (tree : ℕ) (one : Claim) (run : Taken) (got : Option (List ℕ)) wher
         on (got_either (object.Page tree page) (Some bytes) v.looks (looks_of vs) h) (λ g. nodes_under vs page bytes n are.1 g e) where
           here : IsOver bytes are.0.come.2.0 → IsUnder tree root (looks_of (v ∷ vs)) (link_to (node_place page n))
           here o =
-              let come : IsCome tree (root_behind got vs) v.key (v.looks ++ visits_over tree one vs []) vs v.turns (leaf_place v.leaf.low v.page) = are.0.come in
+              let come : IsCome (root_behind got vs) (seeking tree v.key (v.looks ++ visits_over tree one vs [])) vs v.turns (leaf_place v.leaf.low v.page) = are.0.come in
               let same : o.0 ≡ n = same_node bytes o.0 n o.1 e in
               over_under tree v.key (looks_of (v ∷ vs)) root come.0 come.2.0 (leaf_place v.leaf.low v.page) v.turns page n
               (start_lies v.key vs come.0 v.looks are.1 (newest_lies vs are.1) come.1)

@@ -138,13 +138,22 @@ LeadsOn key n level turns q more =
     (GoesRight n.high (node.page_at n.right) q.low q.page × (bytes_below key q.low ≡ false) × (q.level ≡ level) × (more ≡ turns ++ link_to q ∷ []))
     ⊎ ((below_bound key n.high ≡ true) × (q ≡ child_place key n.entries (level - 1)) × (more ≡ turns))
 
+-- a key that is sought in a tree, with the calls that got what was seen
+pub record Seeking : Type 0 where
+  pub tree : ℕ
+  pub key : List ℕ
+  pub calls : Calls
+
+abbrev pub seeking : ℕ → List ℕ → Calls → Seeking
+seeking tree key cs = record { tree = tree; key = key; calls = cs }
+
 -- A way for a key leads from one page to another over inner nodes that were got, the newest first. Each has the level and the low key that the link to it
 -- promised. Its turns are all right links that it followed.
-abbrev pub IsWay : ℕ → List ℕ → Calls → Place → List Inner → Place → List Link → Type 0
-IsWay tree key cs start [] q turns = (q ≡ start) × (turns ≡ [])
-IsWay tree key cs start (n ∷ ns) q turns =
-    (p : Place) × (before : List Link) × IsWay tree key cs start ns p before × WasNode tree p.page n cs × (n.level ≡ p.level) × (n.low ≡ p.low)
-    × LeadsOn key n p.level before q turns
+abbrev pub IsWay : Seeking → Place → List Inner → Place → List Link → Type 0
+IsWay s start [] q turns = (q ≡ start) × (turns ≡ [])
+IsWay s start (n ∷ ns) q turns =
+    (p : Place) × (before : List Link) × IsWay s start ns p before × WasNode s.tree p.page n s.calls × (n.level ≡ p.level) × (n.low ≡ p.low)
+    × LeadsOn s.key n p.level before q turns
 
 -- ---- a leaf
 
@@ -243,8 +252,8 @@ IsLeftFor key p (v ∷ vs) = (v.key ≡ key) × IsLeftTo p v.outcome
 abbrev pub IsStart : Option (List ℕ) → List ℕ → List Visit → Place → Type 0
 IsStart root key vs p = (p ≡ below_root key root) ⊎ IsLeftFor key p vs
 
-abbrev pub IsCome : ℕ → Option (List ℕ) → List ℕ → Calls → List Visit → List Link → Place → Type 0
-IsCome tree root key cs vs turns q = (start : Place) × IsStart root key vs start × ((ns : List Inner) × IsWay tree key cs start ns q turns)
+abbrev pub IsCome : Option (List ℕ) → Seeking → List Visit → List Link → Place → Type 0
+IsCome root s vs turns q = (start : Place) × IsStart root s.key vs start × ((ns : List Inner) × IsWay s start ns q turns)
 
 -- these bytes are those of one of the nodes
 abbrev pub IsOver : List ℕ → List Inner → Type 0
@@ -254,7 +263,7 @@ IsOver bytes ns = (n : Inner) × (inner_of bytes ≡ Some n) × IsAmong n ns
 pub record IsVisit (tree : ℕ) (one : Claim) (run : Taken) (got : Option (List ℕ)) (vs : List Visit) (v : Visit) : Type 0 where
   pub looks : AreLooks tree one v.looks
   pub turns : AreTurns tree (v.looks ++ visits_over tree one vs []) v.turns
-  pub come : IsCome tree (root_behind got vs) v.key (v.looks ++ visits_over tree one vs []) vs v.turns (leaf_place v.leaf.low v.page)
+  pub come : IsCome (root_behind got vs) (seeking tree v.key (v.looks ++ visits_over tree one vs [])) vs v.turns (leaf_place v.leaf.low v.page)
   pub over : (page : ℕ) (bytes : List ℕ) → WasGot (object.Page tree page) (Some bytes) v.looks → IsOver bytes come.2.0
   pub holds : HoldsLeaf v.page v.leaf v.got
   pub is_for : IsFor v.key v.leaf v.outcome

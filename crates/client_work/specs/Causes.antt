@@ -24,24 +24,24 @@ use Rattle.tree_walk.specs.Stepped.{Stepped as StepsWalk}
 use Rattle.tree_walk.specs.Walk.{Walk}
 use Rattle.tree_walk.specs.Within.{IsBegun}
 use Rattle.range_scan.specs.Meaning.{Move, Scanned, range_of}
-use Rattle.range_scan.specs.Scan.{Scan}
+use Rattle.range_scan.specs.Scan.{Scan, scan_asks}
 use Rattle.range_scan.specs.Stepped.{Meant, Stepped as StepsScan}
 use Rattle.recover_run.specs.declared.home.Home.{Home}
 use Rattle.recover_run.specs.declared.stage.Aim.TheVariants as aim
 use Rattle.recover_run.specs.declared.stage.RecoverAnswer.{RecoverAnswer}
 use Rattle.recover_run.specs.declared.stage.RecoverAnswer.TheVariants.{Opened}
-use Rattle.recover_run.specs.Recovery.{Recovery}
+use Rattle.recover_run.specs.Recovery.{Recovery, recovery_ask}
 use Rattle.recover_run.specs.Leases.{Went as RecoveryWent}
-use Rattle.recover_run.specs.Stepped.{Means as RecoveryMeans, Stepped as StepsRecovery}
+use Rattle.recover_run.specs.Stepped.{course_of as recovery_course, Means as RecoveryMeans, Stepped as StepsRecovery}
 use Rattle.commit_run.specs.Run.{Run, asks as run_asks}
 use Rattle.commit_run.specs.Stepped.{course_of, Whole, Stepped as StepsRun}
 use Rattle.commit_run.specs.Within.{Went as RunWent}
 use Rattle.attr_index.specs.Look.{Own, Look}
 use Rattle.attr_index.specs.Stepped.{Stepped as StepsLook}
-use Rattle.page_ckpt.specs.Paging.{Paging as Page}
+use Rattle.page_ckpt.specs.Paging.{paging_ask, Paging as Page}
 use Rattle.page_ckpt.specs.Leases.{Went as PageWent}
 use Rattle.page_ckpt.specs.Stepped.{Means as PageMeans, Stepped as StepsPage}
-use Rattle.tree_ckpt.specs.Making.{Making}
+use Rattle.tree_ckpt.specs.Making.{Making, making_ask}
 use Rattle.tree_ckpt.specs.Leases.{Went as MakingWent}
 use Rattle.tree_ckpt.specs.Stepped.{Means as MakingMeans, Stepped as StepsMaking}
 use Rattle.settle_run.specs.declared.settled.Settled.{Settled}
@@ -156,7 +156,7 @@ pub record OpeningCauses (who : Caller) (before after : Seen) (old new : Recover
   pub earlier : List Deed
   pub went : RecoveryWent client aim.Opening former earlier old
   pub stepped : StepsRecovery who before after old new turn
-  pub means : RecoveryMeans who before after client aim.Opening former earlier old stepped.did.answer new turn
+  pub means : RecoveryMeans (recovery_course client aim.Opening former earlier) (deed_by who (recovery_ask old) stepped.did.answer before after) old new turn
 
 -- of a commit: with what it did not commit its answer shows, and what else it answers its calls mean
 pub record CommitCauses (who : Caller) (before after : Seen) (old new : Run × Cache) (turn : Turn CommitAnswer) : Type 0 where
@@ -184,7 +184,7 @@ pub record ScanningCauses (who : Caller) (before after : Seen) (old new : Scan �
   pub moves : List Move
   pub came : Scanned (range_of old.0) moves old
   pub stepped : StepsScan who before after old new turn
-  pub meant : Meant (range_of old.0) moves who before after old new stepped.answer turn
+  pub meant : Meant (range_of old.0) moves (deed_by who (scan_asks old) stepped.answer before after) old new turn
 
 -- of a look-up: as of a read, by the calls of the walk in hand; or the next walk meets a trouble in what the cache keeps
 pub record LookingCauses (who : Caller) (before after : Seen) (old new : Look × Cache) (turn : Turn (Unit {0})) : Type 0 where
@@ -201,14 +201,14 @@ pub record PagingCauses (who : Caller) (before after : Seen) (old new : Page) (t
   pub earlier : List Deed
   pub went : PageWent earlier old
   pub stepped : StepsPage who before after old new turn
-  pub means : PageMeans who before after earlier old stepped.did.answer new turn
+  pub means : PageMeans (deed_by who (paging_ask old) stepped.did.answer before after) earlier old new turn
 
 -- of a tree checkpoint: as of an opening
 pub record FoldingCauses (who : Caller) (before after : Seen) (old new : Making) (turn : Turn CkptAnswer) : Type 0 where
   pub earlier : List Deed
   pub went : MakingWent earlier old
   pub stepped : StepsMaking who before after old new turn
-  pub means : MakingMeans who before after earlier old stepped.did.answer new turn
+  pub means : MakingMeans (deed_by who (making_ask old) stepped.did.answer before after) earlier old new turn
 
 -- of a settling: the part at work stopped, behind its own calls and with the causes of its machine, or deletions failed, or its way goes round
 pub record SettlingCauses (who : Caller) (before after : Seen) (old new : SettlingState) (turn : Turn Settled) : Type 0 where

@@ -19,30 +19,30 @@ use Rattle.orphan_sweep.specs.Demands.{Owes}
 use Rattle.orphan_sweep.specs.Meaning.{Knows, Removes, MeansSwept}
 use Rattle.orphan_sweep.specs.Calm.{IsWell}
 
--- the call in hand and its answer, before others
-abbrev pub and_then : Caller → Seen → Seen → Sweeping → Answer → List Deed → List Deed
-and_then who before after old answer h = record { who = who; ask = sweep_ask old; answer = answer; before = before; after = after } ∷ h
+-- the call in hand, as it was answered
+abbrev pub deed_of : Caller → Sweeping → Answer → Seen → Seen → Deed
+deed_of who old answer before after = record { who = who; ask = sweep_ask old; answer = answer; before = before; after = after }
 
 -- What this answer came to behind these calls. The calls were those of the stage (`knows`): so nothing was removed before all levels were read and the
 -- pages listed, and a removal in hand is of the next listed page that was not come to (`removes`). The call names the tree's lease, which is held
 -- (`stands`, `names`), and few calls were made with it (`few`). Each trouble that is kept or answered was kept before or is shown by the answer
 -- (`tells`), and each such trouble is kept or answered (`owes`). At an end all orphans are removed (`swept`), and before it the lease was given back by
 -- a call (`returned`). Where all calls were calm, a stop is for what the cloud holds or for want of memory (`well`).
-pub record Means (who : Caller) (before after : Seen) (h : List Deed) (old : Sweeping) (answer : Answer) (new : Sweeping) (turn : Turn Swept) : Type 0 where
+pub record Means (d : Deed) (h : List Deed) (old new : Sweeping) (turn : Turn Swept) : Type 0 where
   pub knows : Knows old (calls_of h)
   pub removes : Removes old (calls_of h) (sweep_ask old)
   pub stands : Stands old h
   pub names : Names old.tree (sweep_ask old) (outstanding h)
   pub few : AreFew old (1 + length h)
-  pub tells : Tells old answer new turn
-  pub owes : (t : Trouble) → t ≢ trouble.Memory → IsShown old answer t → Owes new turn t
+  pub tells : Tells old d.answer new turn
+  pub owes : (t : Trouble) → t ≢ trouble.Memory → IsShown old d.answer t → Owes new turn t
   pub swept : MeansSwept old (calls_of h) turn
-  pub returned : AreReturned (outstanding (and_then who before after old answer h)) turn
-  pub well : AreCalm (and_then who before after old answer h) → IsWell turn
+  pub returned : AreReturned (outstanding (d ∷ h)) turn
+  pub well : AreCalm (d ∷ h) → IsWell turn
 
 -- The code made the call in hand and took the step that its answer leads to. Where the answer is want of memory, it stops for it. Whichever calls the
 -- sweep came by, the answer came to this behind them.
 pub record Stepped (who : Caller) (before after : Seen) (old new : Sweeping) (turn : Turn Swept) : Type 0 where
   pub did : Steps sweep_ask (LeadsBy sweep_next) KeepsLease who before after old new turn
   pub memory : did.answer ≡ call.Memory → turn ≡ Stopped trouble.Memory
-  pub means : (h : List Deed) → Went h old → Means who before after h old did.answer new turn
+  pub means : (h : List Deed) → Went h old → Means (deed_of who old did.answer before after) h old new turn

@@ -20,26 +20,26 @@ use Rattle.page_ckpt.specs.Causes.{IsShown, Tells}
 use Rattle.page_ckpt.specs.Demands.{WasBrought, Owes}
 use Rattle.page_ckpt.specs.Calm.{IsWell}
 
--- the call in hand and its answer, before others
-abbrev pub and_then : Caller → Seen → Seen → Paging → Answer → List Deed → List Deed
-and_then who before after old answer h = record { who = who; ask = paging_ask old; answer = answer; before = before; after = after } ∷ h
+-- the call in hand, as it was answered
+abbrev pub deed_of : Caller → Paging → Answer → Seen → Seen → Deed
+deed_of who old answer before after = record { who = who; ask = paging_ask old; answer = answer; before = before; after = after }
 
 -- What this answer came to behind these calls. Each trouble that is kept or answered was kept before or is shown by the answer (`tells`), and each
 -- such trouble is kept or answered (`owes`). The leaves from which links lead on were brought by gets. At an end the calls were those of a
 -- checkpoint that is done, in their order (`done`), and before it each lease that a call took was given back by a call (`returned`). Where all calls
 -- were calm, and those before this one were not answered for want of memory, an end leaves no message, and a stop is for what the cloud holds
 -- (`well`).
-pub record Means (who : Caller) (before after : Seen) (h : List Deed) (old : Paging) (answer : Answer) (new : Paging) (turn : Turn CkptAnswer) : Type 0 where
-  pub tells : Tells old answer new turn
-  pub owes : (t : Trouble) → t ≢ trouble.Memory → IsShown old answer new t → Owes new turn t
+pub record Means (d : Deed) (h : List Deed) (old new : Paging) (turn : Turn CkptAnswer) : Type 0 where
+  pub tells : Tells old d.answer new turn
+  pub owes : (t : Trouble) → t ≢ trouble.Memory → IsShown old d.answer new t → Owes new turn t
   pub brought : WasBrought old (calls_of h)
   pub done : MeansDone (paging_ask old) new h turn
-  pub returned : AreReturned (outstanding (and_then who before after old answer h)) turn
-  pub well : AreCalm (and_then who before after old answer h) → HadMemory h → IsWell new turn
+  pub returned : AreReturned (outstanding (d ∷ h)) turn
+  pub well : AreCalm (d ∷ h) → HadMemory h → IsWell new turn
 
 -- The code made the call in hand and took a step that its answer leads to. Where the answer is want of memory, it stops for it. Whichever calls the
 -- checkpoint came by, the answer came to this behind them.
 pub record Stepped (who : Caller) (before after : Seen) (old new : Paging) (turn : Turn CkptAnswer) : Type 0 where
   pub did : Steps paging_ask PagingLeads KeepsLeases who before after old new turn
   pub memory : did.answer ≡ call.Memory → turn ≡ Stopped trouble.Memory
-  pub means : (h : List Deed) → Went h old → Means who before after h old did.answer new turn
+  pub means : (h : List Deed) → Went h old → Means (deed_of who old did.answer before after) h old new turn

@@ -25,9 +25,9 @@ use Rattle.tree_ckpt.specs.Calm.{IsWell}
 abbrev pub calls_with : Making → List Deed → Answer → Calls
 calls_with m h a = (making_ask m, a) ∷ calls_of h
 
--- the call in hand and its answer, before others
-abbrev pub and_then : Caller → Seen → Seen → Making → Answer → List Deed → List Deed
-and_then who before after old answer h = record { who = who; ask = making_ask old; answer = answer; before = before; after = after } ∷ h
+-- the call in hand, as it was answered
+abbrev pub deed_of : Caller → Making → Answer → Seen → Seen → Deed
+deed_of who old answer before after = record { who = who; ask = making_ask old; answer = answer; before = before; after = after }
 
 -- ---- why it stops
 
@@ -65,20 +65,20 @@ ComesToFail m n (Stopped t) = (kept_trouble m.work ≡ None) × (t ≡ trouble.F
 -- and needs few new pages (`few`); a tree object that is cut short stood at the last version but one. At an end the calls were those of a checkpoint that
 -- is done, in their order (`done`), and before it each lease that a call took was given back by a call (`returned`). Where all calls were calm, and those
 -- before this one were not answered for want of memory, an end leaves no message, and a stop is for what the cloud holds (`well`).
-pub record Means (who : Caller) (before after : Seen) (h : List Deed) (old : Making) (answer : Answer) (new : Making) (turn : Turn CkptAnswer) : Type 0 where
-  pub tells : Tells old h answer new turn
-  pub owes : (t : Trouble) → (kept_trouble old.work ≡ Some t) ⊎ Demands old.tree old.work answer t → Owes new turn t
+pub record Means (d : Deed) (h : List Deed) (old new : Making) (turn : Turn CkptAnswer) : Type 0 where
+  pub tells : Tells old h d.answer new turn
+  pub owes : (t : Trouble) → (kept_trouble old.work ≡ Some t) ⊎ Demands old.tree old.work d.answer t → Owes new turn t
   pub fails : ComesToFail old new turn → Matters (making_ask old)
-  pub brought : (due : Due) → IsDue old.work answer due → WasBrought old.tree due (calls_with old h answer)
-  pub few : (due : Due) → IsDue old.work answer due → NeedsFew due (calls_with old h answer)
-  pub cut_short : IsCutShort old.work answer → WasLastButOne old.tree (calls_with old h answer)
+  pub brought : (due : Due) → IsDue old.work d.answer due → WasBrought old.tree due (calls_with old h d.answer)
+  pub few : (due : Due) → IsDue old.work d.answer due → NeedsFew due (calls_with old h d.answer)
+  pub cut_short : IsCutShort old.work d.answer → WasLastButOne old.tree (calls_with old h d.answer)
   pub done : MeansDone (making_ask old) old h turn
-  pub returned : AreReturned (outstanding (and_then who before after old answer h)) turn
-  pub well : AreCalm (and_then who before after old answer h) → HadMemory h → IsWell old.tree (calls_with old h answer) turn
+  pub returned : AreReturned (outstanding (d ∷ h)) turn
+  pub well : AreCalm (d ∷ h) → HadMemory h → IsWell old.tree (calls_with old h d.answer) turn
 
 -- The code made the call in hand and took a step that its answer leads to. Where the answer is want of memory, it stops for it. Whichever calls the
 -- checkpoint came by, the answer came to this behind them.
 pub record Stepped (who : Caller) (before after : Seen) (old new : Making) (turn : Turn CkptAnswer) : Type 0 where
   pub did : Steps making_ask MakingLeads KeepsLeases who before after old new turn
   pub memory : did.answer ≡ call.Memory → turn ≡ Stopped trouble.Memory
-  pub means : (h : List Deed) → Went h old → Means who before after h old did.answer new turn
+  pub means : (h : List Deed) → Went h old → Means (deed_of who old did.answer before after) h old new turn

@@ -15,7 +15,7 @@ use Rattle.txn_buffer.specs.Noted.{Noted}
 use Rattle.route_plan.specs.Heads.{opened_head, raised_by, settled_head}
 use Rattle.route_plan.specs.Queue.{number_of_queue}
 use Rattle.route_plan.specs.Record.{pending_of}
-use Rattle.route_plan.specs.Route.{goes_to, last_number, next_number, record_behind, routed, routed_behind}
+use Rattle.route_plan.specs.Route.{goes_to, last_number, next_number, record_behind, routed, routed_behind, transaction}
 use Rattle.route_plan.proofs.CounterLaws.{raised_by-ascends, number_of_queue-raised_by}
 
 -- the head that commits has a spelling
@@ -41,11 +41,11 @@ HasSpelling-settled_head head records is all =
 
 -- there is a record for each change
 pub length-routed_behind : (client epoch txn count : ℕ) (head : Head) (earlier : List AtomicRec) (changes : List Noted) (leaves : List ℕ)
-    → length leaves ≡ length changes → length (routed_behind client epoch txn count head earlier changes leaves) ≡ length changes
+    → length leaves ≡ length changes → length (routed_behind (transaction client epoch txn count) head earlier changes leaves) ≡ length changes
 length-routed_behind client epoch txn count head earlier [] leaves same = refl
 length-routed_behind client epoch txn count head earlier (noted ∷ changes) [] same = absurd (omega arith)
 length-routed_behind client epoch txn count head earlier (noted ∷ changes) (leaf ∷ leaves) same =
-    ap suc (length-routed_behind client epoch txn count head (earlier ++ record_behind client epoch txn count head earlier noted leaf ∷ []) changes leaves (omega arith))
+    ap suc (length-routed_behind client epoch txn count head (earlier ++ record_behind (transaction client epoch txn count) head earlier noted leaf ∷ []) changes leaves (omega arith))
 
 pub length-routed : (client epoch txn : ℕ) (head : Head) (changes : List Noted) (leaves : List ℕ)
     → length leaves ≡ length changes → length (routed client epoch txn head changes leaves) ≡ length changes
@@ -54,30 +54,30 @@ length-routed client epoch txn head changes leaves same = length-routed_behind c
 -- the record at each place
 pub routed_behind-at : (client epoch txn count : ℕ) (head : Head) (earlier : List AtomicRec) (changes : List Noted) (leaves : List ℕ) (i : ℕ) (noted : Noted) (leaf : ℕ)
     → slice_get changes i ≡ Some noted → slice_get leaves i ≡ Some leaf
-    → slice_get (routed_behind client epoch txn count head earlier changes leaves) i
-    ≡ Some (record_behind client epoch txn count head (earlier ++ take i (routed_behind client epoch txn count head earlier changes leaves)) noted leaf)
+    → slice_get (routed_behind (transaction client epoch txn count) head earlier changes leaves) i
+    ≡ Some (record_behind (transaction client epoch txn count) head (earlier ++ take i (routed_behind (transaction client epoch txn count) head earlier changes leaves)) noted leaf)
 routed_behind-at client epoch txn count head earlier [] leaves i noted leaf here at = absurd (cc)
 routed_behind-at client epoch txn count head earlier (first ∷ changes) [] i noted leaf here at = absurd (cc)
 routed_behind-at client epoch txn count head earlier (first ∷ changes) (to ∷ leaves) zero noted leaf here at =
     let same : first ≡ noted = cc in
     let there : to ≡ leaf = cc in
-    ap (λ e. Some (record_behind client epoch txn count head e first to)) (sym (append-nil earlier))
-    ∙ (ap (λ n. Some (record_behind client epoch txn count head (earlier ++ []) n to)) same
-    ∙ ap (λ l. Some (record_behind client epoch txn count head (earlier ++ []) noted l)) there)
+    ap (λ e. Some (record_behind (transaction client epoch txn count) head e first to)) (sym (append-nil earlier))
+    ∙ (ap (λ n. Some (record_behind (transaction client epoch txn count) head (earlier ++ []) n to)) same
+    ∙ ap (λ l. Some (record_behind (transaction client epoch txn count) head (earlier ++ []) noted l)) there)
 routed_behind-at client epoch txn count head earlier (first ∷ changes) (to ∷ leaves) (suc i) noted leaf here at =
-    routed_behind-at client epoch txn count head (earlier ++ record_behind client epoch txn count head earlier first to ∷ []) changes leaves i noted leaf here at
-    ∙ ap (λ e. Some (record_behind client epoch txn count head e noted leaf)) (append_assoc earlier (record_behind client epoch txn count head earlier first to ∷ []) (take i (routed_behind client epoch txn count head (earlier ++ record_behind client epoch txn count head earlier first to ∷ []) changes leaves)))
+    routed_behind-at client epoch txn count head (earlier ++ record_behind (transaction client epoch txn count) head earlier first to ∷ []) changes leaves i noted leaf here at
+    ∙ ap (λ e. Some (record_behind (transaction client epoch txn count) head e noted leaf)) (append_assoc earlier (record_behind (transaction client epoch txn count) head earlier first to ∷ []) (take i (routed_behind (transaction client epoch txn count) head (earlier ++ record_behind (transaction client epoch txn count) head earlier first to ∷ []) changes leaves)))
 
 -- every record has its place in the transaction, and its numbers count from 1
 pub HasPlace-routed_behind : (client epoch txn count : ℕ) (head : Head) (earlier : List AtomicRec) (changes : List Noted) (leaves : List ℕ)
     → 1 ≤ epoch → 1 ≤ txn → count ≡ length earlier + length changes → count ≤ 200
-    → AllByRecursion HasPlace (routed_behind client epoch txn count head earlier changes leaves)
+    → AllByRecursion HasPlace (routed_behind (transaction client epoch txn count) head earlier changes leaves)
 HasPlace-routed_behind client epoch txn count head earlier [] leaves e t all few = tt
 HasPlace-routed_behind client epoch txn count head earlier (noted ∷ changes) [] e t all few = tt
 HasPlace-routed_behind client epoch txn count head earlier (noted ∷ changes) (leaf ∷ leaves) e t all few = (
   record { epoch = e; txn = t; position = record { some = omega arith; within = omega arith; few = few }; number = omega arith },
-  HasPlace-routed_behind client epoch txn count head (earlier ++ record_behind client epoch txn count head earlier noted leaf ∷ []) changes leaves e t
-      (omega (arith, length-append earlier (record_behind client epoch txn count head earlier noted leaf ∷ []))) few,
+  HasPlace-routed_behind client epoch txn count head (earlier ++ record_behind (transaction client epoch txn count) head earlier noted leaf ∷ []) changes leaves e t
+      (omega (arith, length-append earlier (record_behind (transaction client epoch txn count) head earlier noted leaf ∷ []))) few,
 )
 
 pub HasPlace-routed : (client epoch txn : ℕ) (head : Head) (changes : List Noted) (leaves : List ℕ)
@@ -113,18 +113,18 @@ next-number head earlier r tree page is =
 
 -- the last number of a queue in the records of a commit: each of its records of that queue adds one
 pub last_number-routed_behind : (client epoch txn count : ℕ) (head : Head) (earlier : List AtomicRec) (changes : List Noted) (leaves : List ℕ) (tree page : ℕ)
-    → last_number tree page (number_of_queue head.counters tree page + count_by (goes_to tree page) earlier) (routed_behind client epoch txn count head earlier changes leaves)
-    ≡ number_of_queue head.counters tree page + count_by (goes_to tree page) (earlier ++ routed_behind client epoch txn count head earlier changes leaves)
+    → last_number tree page (number_of_queue head.counters tree page + count_by (goes_to tree page) earlier) (routed_behind (transaction client epoch txn count) head earlier changes leaves)
+    ≡ number_of_queue head.counters tree page + count_by (goes_to tree page) (earlier ++ routed_behind (transaction client epoch txn count) head earlier changes leaves)
 last_number-routed_behind client epoch txn count head earlier [] leaves tree page =
     ap (λ l. number_of_queue head.counters tree page + count_by (goes_to tree page) l) (sym (append-nil earlier))
 last_number-routed_behind client epoch txn count head earlier (noted ∷ changes) [] tree page =
     ap (λ l. number_of_queue head.counters tree page + count_by (goes_to tree page) l) (sym (append-nil earlier))
 last_number-routed_behind client epoch txn count head earlier (noted ∷ changes) (leaf ∷ leaves) tree page =
-    ap (λ n. last_number tree page n (routed_behind client epoch txn count head (earlier ++ record_behind client epoch txn count head earlier noted leaf ∷ []) changes leaves))
-    (next-number head earlier (record_behind client epoch txn count head earlier noted leaf) tree page refl)
-    ∙ (last_number-routed_behind client epoch txn count head (earlier ++ record_behind client epoch txn count head earlier noted leaf ∷ []) changes leaves tree page
+    ap (λ n. last_number tree page n (routed_behind (transaction client epoch txn count) head (earlier ++ record_behind (transaction client epoch txn count) head earlier noted leaf ∷ []) changes leaves))
+    (next-number head earlier (record_behind (transaction client epoch txn count) head earlier noted leaf) tree page refl)
+    ∙ (last_number-routed_behind client epoch txn count head (earlier ++ record_behind (transaction client epoch txn count) head earlier noted leaf ∷ []) changes leaves tree page
     ∙ ap (λ l. number_of_queue head.counters tree page + count_by (goes_to tree page) l)
-    (append_assoc earlier (record_behind client epoch txn count head earlier noted leaf ∷ []) (routed_behind client epoch txn count head (earlier ++ record_behind client epoch txn count head earlier noted leaf ∷ []) changes leaves)))
+    (append_assoc earlier (record_behind (transaction client epoch txn count) head earlier noted leaf ∷ []) (routed_behind (transaction client epoch txn count) head (earlier ++ record_behind (transaction client epoch txn count) head earlier noted leaf ∷ []) changes leaves)))
 
 -- the counters of the head that commits: each record of a queue raises the queue's counter by one
 pub number_of_queue-opened_head : (client epoch txn : ℕ) (head : Head) (changes : List Noted) (leaves : List ℕ) (tree page : ℕ)

@@ -13,23 +13,42 @@ goes_to tree page r = (r.tree == tree) && (r.page == page)
 abbrev pub next_number : Head → List AtomicRec → ℕ → ℕ → ℕ
 next_number head earlier tree page = number_of_queue head.counters tree page + 1 + count_by (goes_to tree page) earlier
 
--- the record of a change behind the earlier ones of a commit of `count` records
-abbrev pub record_behind : ℕ → ℕ → ℕ → ℕ → Head → List AtomicRec → Noted → ℕ → AtomicRec
-record_behind client epoch txn count head earlier noted leaf =
+-- what the records of a commit have in common: whose it is, under which epoch, the number of its transaction, and how many they are
+pub record Transaction : Type 0 where
+  pub client : ℕ
+  pub epoch : ℕ
+  pub txn : ℕ
+  pub count : ℕ
+
+abbrev pub transaction : ℕ → ℕ → ℕ → ℕ → Transaction
+transaction client epoch txn count = record { client = client; epoch = epoch; txn = txn; count = count }
+
+-- the record of a change behind the earlier ones of a commit
+abbrev pub record_behind : Transaction → Head → List AtomicRec → Noted → ℕ → AtomicRec
+record_behind own head earlier noted leaf =
     let page = queue_of head.pending noted.tree noted.change leaf in
-    record { client = client; epoch = epoch; txn = txn; index = length earlier + 1; count = count; tree = noted.tree; page = page; number = next_number head earlier noted.tree page; change = noted.change }
+    record {
+      client = own.client;
+      epoch = own.epoch;
+      txn = own.txn;
+      index = length earlier + 1;
+      count = own.count;
+      tree = noted.tree;
+      page = page;
+      number = next_number head earlier noted.tree page;
+      change = noted.change;
+    }
 
 -- the records of changes behind the earlier ones of the commit; each change has the leaf that the client's walk came to
-abbrev pub routed_behind : ℕ → ℕ → ℕ → ℕ → Head → List AtomicRec → List Noted → List ℕ → List AtomicRec
-routed_behind client epoch txn count head earlier [] leaves = []
-routed_behind client epoch txn count head earlier (noted ∷ changes) [] = []
-routed_behind client epoch txn count head earlier (noted ∷ changes) (leaf ∷ leaves) =
-    record_behind client epoch txn count head earlier noted leaf
-    ∷ routed_behind client epoch txn count head (earlier ++ record_behind client epoch txn count head earlier noted leaf ∷ []) changes leaves
+abbrev pub routed_behind : Transaction → Head → List AtomicRec → List Noted → List ℕ → List AtomicRec
+routed_behind own head earlier [] leaves = []
+routed_behind own head earlier (noted ∷ changes) [] = []
+routed_behind own head earlier (noted ∷ changes) (leaf ∷ leaves) =
+    record_behind own head earlier noted leaf ∷ routed_behind own head (earlier ++ record_behind own head earlier noted leaf ∷ []) changes leaves
 
 -- the records of a commit's changes
 abbrev pub routed : ℕ → ℕ → ℕ → Head → List Noted → List ℕ → List AtomicRec
-routed client epoch txn head changes leaves = routed_behind client epoch txn (length changes) head [] changes leaves
+routed client epoch txn head changes leaves = routed_behind (transaction client epoch txn (length changes)) head [] changes leaves
 
 -- a number would pass the greatest u64
 abbrev pub PassesGreatest : List AtomicRec → Type 0

@@ -11,7 +11,7 @@ ghost use Rattle.txn_buffer.specs.Noted.{Noted};
 ghost use Rattle.route_plan.specs.Heads.{opened_head, raised_by, settled_head};
 ghost use Rattle.route_plan.specs.Prune.{pruned_by_leaf, pruned_by_tree};
 ghost use Rattle.route_plan.specs.Queue.{number_of_queue};
-ghost use Rattle.route_plan.specs.Route.{goes_to, record_behind, routed};
+ghost use Rattle.route_plan.specs.Route.{goes_to, record_behind, routed, transaction};
 
 /// A commit has a record for each change, in the order of the changes: that of its change and leaf, behind the records before it.
 pub fn each_change_has_its_record()
@@ -20,7 +20,7 @@ pub fn each_change_has_its_record()
     ensures record_at { (client epoch txn : ℕ) (head : Head) (changes : List Noted) (leaves : List ℕ) (i : ℕ) (noted : Noted) (leaf : ℕ) →
         slice_get changes i ≡ Some noted → slice_get leaves i ≡ Some leaf →
         slice_get (routed client epoch txn head changes leaves) i
-        ≡ Some (record_behind client epoch txn (length changes) head (take i (routed client epoch txn head changes leaves)) noted leaf) }
+        ≡ Some (record_behind (transaction client epoch txn (length changes)) head (take i (routed client epoch txn head changes leaves)) noted leaf) }
 {}
 
 /// The counters of the head that commits are raised by one for each record of their queue, and by nothing else.

@@ -2,7 +2,7 @@ ghost use Rattle.std.specs.Prelude.{◌≡◌, ◌⊎◌, [], ◌∷◌, ◌++�
 ghost use Rattle.db_base.specs.Limits.{most_changes};
 ghost use Rattle.txn_buffer.specs.Noted.{Noted};
 ghost use Rattle.route_plan.specs.Queue.{queue_of};
-ghost use Rattle.route_plan.specs.Route.{next_number, record_behind, routed, AllFit, PassesGreatest};
+ghost use Rattle.route_plan.specs.Route.{next_number, record_behind, routed, AllFit, PassesGreatest, transaction};
 
 use crate::index::{PendingIndex, page_of};
 use crate::queue::number_of_queue;
@@ -50,7 +50,8 @@ fn record_behind(
 ) -> Result<AtomicRec, Trouble>
     requires few { length earlier.now < most_changes }
     requires index { index.now ≡ head.now.pending }
-    ensures ok { IfOk result (λ r. r ≡ record_behind commit.now.client commit.now.epoch commit.now.txn commit.now.count head.now earlier.now (record { tree = tree; change = change.now }) leaf) }
+    ensures ok { IfOk result (λ r. r ≡ record_behind (transaction commit.now.client commit.now.epoch commit.now.txn commit.now.count)
+        head.now earlier.now (record { tree = tree; change = change.now }) leaf) }
     ensures fits { IfOk result (λ r. r.number < 2 ^ 64) }
     ensures err { IfErr result (λ e. (e ≡ Trouble.Memory) ⊎ ((e ≡ Trouble.Exhausted Counter.Number)
         × (2 ^ 64 ≤ next_number head.now earlier.now tree (queue_of head.now.pending tree change.now leaf)))) }

@@ -17,7 +17,7 @@ use Rattle.head_codec.specs.Spelling.{head_of}
 use Rattle.head_codec.specs.declared.lists.QueueCount.{QueueCount}
 use Rattle.recover_run.specs.declared.home.Home.{Home as Owner}
 use Rattle.route_plan.specs.Queue.{number_of_queue, queue_of}
-use Rattle.route_plan.specs.Route.{goes_to, next_number, record_behind, routed_behind}
+use Rattle.route_plan.specs.Route.{goes_to, next_number, record_behind, routed_behind, transaction}
 use Rattle.session_facts.specs.Machines.Openings.Client.{AreCounted}
 use Rattle.session_facts.specs.Sessions.Spent.{HasLastNumber}
 use Rattle.txn_buffer.specs.Noted.{Noted}
@@ -38,17 +38,17 @@ number_near head earlier tree page few far =
     (tree, page, omega (arith, past, own, few))
 
 near_behind : (client epoch txn count : ℕ) (head : Head) (earlier : List AtomicRec) (changes : List Noted) (leaves : List ℕ) → length earlier + length changes ≤ 200
-    → list_any is_far (routed_behind client epoch txn count head earlier changes leaves) ≡ true → IsNear head.counters
+    → list_any is_far (routed_behind (transaction client epoch txn count) head earlier changes leaves) ≡ true → IsNear head.counters
 near_behind client epoch txn count head earlier [] leaves few far = absurd (cc (far))
 near_behind client epoch txn count head earlier (n ∷ changes) [] few far = absurd (cc (far))
 near_behind client epoch txn count head earlier (n ∷ changes) (leaf ∷ leaves) few far =
     on (is_far next) refl far (near_behind client epoch txn count head (earlier ++ next ∷ []) changes leaves (let all = length-append earlier (next ∷ []) in omega (arith, few, all)))
   where
     next : AtomicRec
-    next = record_behind client epoch txn count head earlier n leaf
+    next = record_behind (transaction client epoch txn count) head earlier n leaf
 
-    on : (b : Bool) → is_far next ≡ b → (b || list_any is_far (routed_behind client epoch txn count head (earlier ++ next ∷ []) changes leaves)) ≡ true
-        → (list_any is_far (routed_behind client epoch txn count head (earlier ++ next ∷ []) changes leaves) ≡ true → IsNear head.counters) → IsNear head.counters
+    on : (b : Bool) → is_far next ≡ b → (b || list_any is_far (routed_behind (transaction client epoch txn count) head (earlier ++ next ∷ []) changes leaves)) ≡ true
+        → (list_any is_far (routed_behind (transaction client epoch txn count) head (earlier ++ next ∷ []) changes leaves) ≡ true → IsNear head.counters) → IsNear head.counters
     on true e all again = number_near head earlier n.tree (queue_of head.pending n.tree n.change leaf) (omega (arith, few)) e
     on false e all again = again all
 

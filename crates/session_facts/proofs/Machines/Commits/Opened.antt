@@ -13,7 +13,7 @@ use Rattle.cloud_facts.specs.Numbers.Numbers.{Numbers}
 use Rattle.cloud_facts.specs.Pendings.Pending.{HeadPends}
 use Rattle.route_plan.specs.Heads.{opened_head}
 use Rattle.route_plan.specs.Queue.{number_of_queue}
-use Rattle.route_plan.specs.Route.{goes_to, record_behind, routed_behind}
+use Rattle.route_plan.specs.Route.{goes_to, record_behind, routed_behind, transaction}
 use Rattle.route_plan.proofs.CommitLaws.{number_of_queue-opened_head}
 use Rattle.cloud_facts.specs.Book.Messages.{IsLogMessage, WaitsLogged}
 use Rattle.cloud_facts.specs.Book.Premises.{IsRecordAt, IsAppliedEntry, Opens}
@@ -23,12 +23,12 @@ use Rattle.txn_buffer.specs.Noted.{Noted}
 -- ---- entries
 
 entries_behind : (client epoch txn count : ℕ) (head : Head) (earlier : List AtomicRec) (changes : List Noted) (pages : List ℕ) → length changes ≤ length pages
-    → map entry_of (routed_behind client epoch txn count head earlier changes pages) ≡ map (committed_entry client epoch txn) changes
+    → map entry_of (routed_behind (transaction client epoch txn count) head earlier changes pages) ≡ map (committed_entry client epoch txn) changes
 entries_behind client epoch txn count head earlier [] pages paged = refl
 entries_behind client epoch txn count head earlier (n ∷ changes) [] paged = absurd (omega (arith, paged))
 entries_behind client epoch txn count head earlier (n ∷ changes) (page ∷ pages) paged =
     ap (λ es. committed_entry client epoch txn n ∷ es)
-    (entries_behind client epoch txn count head (earlier ++ record_behind client epoch txn count head earlier n page ∷ []) changes pages (omega (arith, paged)))
+    (entries_behind client epoch txn count head (earlier ++ record_behind (transaction client epoch txn count) head earlier n page ∷ []) changes pages (omega (arith, paged)))
 
 -- the records are those of the changes' entries
 pub entries_are : (client epoch txn : ℕ) (head : Head) (changes : List Noted) (pages : List ℕ) → length changes ≤ length pages
@@ -45,7 +45,7 @@ module _ (st : Store) (client txn : ℕ) (changes : List Noted) (pages : List �
   recs = records client base.epoch txn base changes pages
 
   abbrev behind : ℕ → Noted → ℕ → AtomicRec
-  behind place noted page = record_behind client base.epoch txn (length changes) base (take place recs) noted page
+  behind place noted page = record_behind (transaction client base.epoch txn (length changes)) base (take place recs) noted page
 
   pending_is : head.pending ≡ base.pending
   pending_is = ap (λ (h : Head). h.pending) head_is

@@ -12,7 +12,7 @@ use Rattle.cloud_facts.specs.Book.Growth.{Grows}
 use Rattle.cloud_facts.specs.Book.Messages.{IsLogMessage}
 use Rattle.cloud_facts.proofs.Book.Places.{get_within}
 use Rattle.cloud_facts.proofs.Calls.Searching.{stands_below}
-use Rattle.route_plan.specs.Route.{record_behind, routed}
+use Rattle.route_plan.specs.Route.{record_behind, routed, transaction}
 use Rattle.route_plan.proofs.CommitLaws.{routed_behind-at}
 use Rattle.txn_buffer.specs.Noted.{Noted}
 
@@ -71,8 +71,8 @@ record_for st now x changes records base routes place n there =
     let within = get_within changes place n there in
     let page = stands_below routes.pages place (let paged = routes.paged in omega (arith, within, paged)) in
     record {
-      of = record_behind x.client base.epoch x.txn (length changes) base (take place (routed x.client base.epoch x.txn base changes routes.pages)) n page.0;
-      is = subst (λ rs. StandsAt rs place (record_behind x.client base.epoch x.txn (length changes) base (take place (routed x.client base.epoch x.txn base changes routes.pages)) n page.0)) (sym routes.records_are)
+      of = record_behind (transaction x.client base.epoch x.txn (length changes)) base (take place (routed x.client base.epoch x.txn base changes routes.pages)) n page.0;
+      is = subst (λ rs. StandsAt rs place (record_behind (transaction x.client base.epoch x.txn (length changes)) base (take place (routed x.client base.epoch x.txn base changes routes.pages)) n page.0)) (sym routes.records_are)
           (routed_behind-at x.client base.epoch x.txn (length changes) base [] changes routes.pages place n page.0 there page.1);
       tree_is = refl;
       change_is = refl;

@@ -14,7 +14,7 @@ use Rattle.cloud_facts.specs.Numbers.Numbers.{Numbers}
 use Rattle.cloud_facts.specs.Pendings.Pending.{HeadPends}
 use Rattle.route_plan.specs.Queue.{is_pending_of, last_pending, first_queue, queue_of}
 use Rattle.route_plan.specs.Record.{pending_of}
-use Rattle.route_plan.specs.Route.{record_behind, routed_behind, routed}
+use Rattle.route_plan.specs.Route.{record_behind, routed_behind, routed, transaction}
 use Rattle.route_plan.proofs.CommitLaws.{routed_behind-at}
 use Rattle.cloud_facts.specs.Book.Premises.{IsLeafAtMost, IsRouted}
 use Rattle.txn_buffer.specs.Noted.{Noted}
@@ -27,11 +27,11 @@ use Rattle.cloud_facts.proofs.Book.Places.{get_within}
 
 -- there is a record for each change
 as_many : (client epoch txn count : ℕ) (head : Head) (earlier : List AtomicRec) (changes : List Noted) (pages : List ℕ) → length changes ≤ length pages
-    → length (routed_behind client epoch txn count head earlier changes pages) ≡ length changes
+    → length (routed_behind (transaction client epoch txn count) head earlier changes pages) ≡ length changes
 as_many client epoch txn count head earlier [] pages paged = refl
 as_many client epoch txn count head earlier (n ∷ changes) [] paged = absurd (omega (arith, paged))
 as_many client epoch txn count head earlier (n ∷ changes) (page ∷ pages) paged =
-    ap suc (as_many client epoch txn count head (earlier ++ record_behind client epoch txn count head earlier n page ∷ []) changes pages (omega (arith, paged)))
+    ap suc (as_many client epoch txn count head (earlier ++ record_behind (transaction client epoch txn count) head earlier n page ∷ []) changes pages (omega (arith, paged)))
 
 module _ (client epoch txn : ℕ) (head : Head) (changes : List Noted) (pages : List ℕ) where
   abbrev pub records : List AtomicRec
@@ -43,7 +43,7 @@ module _ (client epoch txn : ℕ) (head : Head) (changes : List Noted) (pages : 
     pub page : ℕ
     pub there : StandsAt changes place noted
     pub paged : StandsAt pages place page
-    pub is : r ≡ record_behind client epoch txn (length changes) head (take place records) noted page
+    pub is : r ≡ record_behind (transaction client epoch txn (length changes)) head (take place records) noted page
     pub behind : length (take place records) ≡ place
 
   -- each change has its page
@@ -73,7 +73,7 @@ module _ (client epoch txn : ℕ) (head : Head) (changes : List Noted) (pages : 
         page : (p : ℕ) × (slice_get pages place ≡ Some p)
         page = stands_below pages place (omega (arith, below, paged))
 
-        at : slice_get records place ≡ Some (record_behind client epoch txn (length changes) head (take place records) change.0 page.0)
+        at : slice_get records place ≡ Some (record_behind (transaction client epoch txn (length changes)) head (take place records) change.0 page.0)
         at = routed_behind-at client epoch txn (length changes) head [] changes pages place change.0 page.0 change.1 page.1
 
         one : (a b : AtomicRec) → Some a ≡ Some b → a ≡ b

@@ -1,6 +1,6 @@
 -- Why a tree checkpoint stops.
-use Rattle.std.proofs.Common.{◌≡◌, ◌≢◌, ℕ, Bool, true, false, cond, List, [], ◌∷◌, length, Option, Some, None, Result, Ok, Err, refl, sym, ap, subst, ◌∙◌, inl, inr, ◌⊎◌, arith}
-use Rattle.std.specs.Prelude.{◌==◌, find}
+use Rattle.std.proofs.Common.{◌≡◌, ◌≢◌, ℕ, Bool, true, false, cond, List, [], ◌∷◌, Option, Some, None, Result, Ok, Err, refl, sym, ap, subst, ◌∙◌, inl, inr, ◌⊎◌, arith}
+use Rattle.std.specs.Prelude.{◌==◌, ◌||◌, ◌&&◌, not, is_some, find, unwrap_or}
 use Rattle.db_base.specs.Change.{key_of}
 use Rattle.db_base.specs.declared.names.Lock.TheVariants as lock
 use Rattle.db_base.specs.declared.names.ObjName.TheVariants as object
@@ -12,15 +12,16 @@ use Rattle.node_codec.specs.Inner.{Inner}
 use Rattle.node_codec.proofs.NodeLemmas.{not_below_empty}
 use Rattle.log_codec.specs.Pu.{pu_offset}
 use Rattle.cloud_trait.specs.declared.answer.Answer.TheVariants as call
+use Rattle.cloud_trait.proofs.ViewLemmas.{got_of-ok, done_of-ok}
 use Rattle.cloud_trait.specs.Ask.{Take, GetHeld, PutHeld, Receive, Release}
 use Rattle.ckpt_parts.specs.Intakes.{has_items, items_of, message_damage, TakesItems}
 use Rattle.ckpt_parts.specs.Leasing.{without_newest}
 use Rattle.run_cursor.specs.Covered.{is_seen}
-use Rattle.tree_phases.specs.Placing.{has_nothing}
+use Rattle.tree_phases.specs.Placing.{put_in_hand, has_nothing}
 use Rattle.tree_phases.specs.Read.{tree_held}
 use Rattle.tree_phases.specs.Descent.{with_node, descent_next}
 use Rattle.tree_phases.specs.declared.folding.Left.TheVariants.{Right, Handled}
-use Rattle.tree_phases.specs.Folding.{folding_ask, folding_next, leaf_got, leaf_put, placed}
+use Rattle.tree_phases.specs.Folding.{folding_ask, folding_next}
 use Rattle.tree_phases.specs.Rising as rise
 use Rattle.tree_ckpt.specs.declared.work.Onward.TheVariants as onward
 use Rattle.tree_ckpt.specs.declared.work.Work.TheVariants as work
@@ -33,13 +34,16 @@ use Rattle.tree_ckpt.specs.Way.{WasKept, behind, ComesOver, BreaksAt, BreaksFrom
 use Rattle.tree_ckpt.specs.Due.{Due, LeafDue, NodeDue, RootDue, IsUp, IsDue, Spends}
 use Rattle.tree_ckpt.specs.Demands.{Refuses, BreaksLeaf, Demands}
 use Rattle.tree_ckpt.specs.Stepped.{Tells}
-use Rattle.tree_ckpt.proofs.Words.{Trouble, Lock, ObjName, PuItem, Answer, Message, CkptAnswer, Turn, More, Ended, Stopped, Claim, Next, Goes, Ends, Stops, Took, Deed, Came, calls_of, given_of, got_of, received_of, done_of, Fits, Ask, PagePut, Leases, Chart, KeptNode, Descent, Folding, Left, Rising, Coming, Held, Onward, Work}
+use Rattle.tree_ckpt.proofs.Words.{Trouble, Lock, ObjName, PuItem, Answer, Message, CkptAnswer, Turn, More, Ended, Stopped, Claim, Next, Goes, Ends, Stops, Took, Deed, Came, calls_of, given_of, got_of, received_of, done_of, Fits, Ask, PagePut, Leases, Chart, KeptNode, Placing, Descent, Folding, Left, Rising, Coming, Held, Onward, Work}
 use Rattle.tree_ckpt.proofs.Outcomes.{Seeks, Descends, Ascends, Fails, Comes, comes}
 use Rattle.tree_ckpt.proofs.Outcomes as step
 use Rattle.tree_ckpt.proofs.Brought.{Charted, OnWay, root_more, chart_more, way_more}
 use Rattle.tree_ckpt.proofs.Folds.{not_empty}
-use Rattle.tree_ckpt.proofs.Plots.{KnowsLeaf, LeafSpends, LeafTells, PlacedTells, HasPut, leaf_got_tells, leaf_put_tells}
+use Rattle.tree_ckpt.proofs.Plots.{KnowsLeaf, LeafSpends, LeafTells, PlacedTells, HasPut, reads_tell, lands_tell}
+use Rattle.tree_ckpt.proofs.LeafOutcomes.{Reads}
+use Rattle.tree_ckpt.proofs.LeafOutcomes as leaf
 use Rattle.tree_ckpt.proofs.RiseOutcomes.{IsRising}
+use Rattle.tree_ckpt.proofs.RiseOutcomes as climb
 use Rattle.tree_ckpt.proofs.Rises.{KnowsSpent, UpSpends, RiseTells, PutStops, PutTells, rise_tells, rise_put_tells}
 use Rattle.tree_ckpt.proofs.Spent.{IsSpentFor}
 use Rattle.tree_ckpt.proofs.Ways.{KnowsWay, WayTells, NodeBreaks, GotTells, down_tells, node_got_tells}
@@ -202,9 +206,10 @@ message_shown tree cs l root cursor ms (Err m) t e h =
     (inr breaks, inr (inr (inl ((l, (root, refl)), breaks))))
 
 -- a held get of a page of the tree brings what it answers
-page_brings : (tree other page : ℕ) (l : Claim) (got : Option (List ℕ)) → other ≡ tree
-    → Brings (object.Page tree page) got (GetHeld (object.Page other page) l, call.Got got)
-page_brings tree other page l got e = (l, ap (λ (t : ℕ). (GetHeld (object.Page t page) l, call.Got got)) e)
+page_brings : (tree other page : ℕ) (l : Claim) (got : Option (List ℕ)) (a : Answer) → other ≡ tree → a ≡ call.Got got
+    → Brings (object.Page tree page) got (GetHeld (object.Page other page) l, a)
+page_brings tree other page l got a e brought =
+    (l, ap (λ (t : ℕ). (GetHeld (object.Page t page) l, a)) e ∙ ap (λ (x : Answer). (GetHeld (object.Page tree page) l, x)) brought)
 
 way_later : (tree : ℕ) (d : Descent) (c : Ask × Answer) (cs : Calls) → KnowsWay tree d cs → KnowsWay tree d (c ∷ cs)
 way_later tree d c cs k = record { chart = chart_more tree d.chart c cs k.chart; way = way_more tree d.level d.low d.page d.visited c cs k.way; upto = k.upto }
@@ -215,32 +220,17 @@ node_ask h d = GetHeld (object.Page d.chart.tree d.page) h.lease
 abbrev take_page : Coming → Ask
 take_page c = Take (lock.Page c.chart.tree c.page) 30
 
--- ---- a leaf
+-- ---- a put
 
-leaf_later : (tree : ℕ) (f : Folding) (c : Ask × Answer) (cs : Calls) → KnowsLeaf tree f cs → KnowsLeaf tree f (c ∷ cs)
-leaf_later tree f c cs k = record { chart = chart_more tree f.chart c cs k.chart; way = way_more tree 0 f.low f.page f.visited c cs k.way }
-
-got_told : (tree : ℕ) (cs : Calls) (f : Folding) (a : Answer) → has_nothing f.placing ≡ true → KnowsLeaf tree f cs → Fits (GetHeld (object.Page f.chart.tree f.page) f.lease) a
-    → LeafTold tree (now (GetHeld (object.Page f.chart.tree f.page) f.lease) a cs) (GetHeld (object.Page f.chart.tree f.page) f.lease) a f (leaf_got f (got_of a))
-got_told tree cs f (call.Got got) nothing k fits =
-    let new : Brings (object.Page tree f.page) got (GetHeld (object.Page f.chart.tree f.page) f.lease, call.Got got) = page_brings tree f.chart.tree f.page f.lease got k.chart.same in
-    leaf_tells_told tree (now (GetHeld (object.Page f.chart.tree f.page) f.lease) (call.Got got) cs) (GetHeld (object.Page f.chart.tree f.page) f.lease) (call.Got got) f nothing (leaf_got f (Ok got))
-    (leaf_got_tells tree (now (GetHeld (object.Page f.chart.tree f.page) f.lease) (call.Got got) cs) (GetHeld (object.Page f.chart.tree f.page) f.lease) (call.Got got) f got (leaf_later tree f _ cs k) (inl new) new)
-got_told tree cs f (call.Late until now) nothing k fits = (refl, λ other. inl refl)
-got_told tree cs f call.Failed nothing k fits = (refl, λ other. inl (refl, tt))
-got_told tree cs f call.Memory nothing k fits = (tt, no_memory)
-got_told tree cs f a nothing k fits = absurd fits
-
-put_told : (tree : ℕ) (cs : Calls) (f : Folding) (name : ObjName) (bytes : List ℕ) (one : Claim) (two : Option Claim) (a : Answer) → KnowsLeaf tree f cs
-    → (a ≡ call.Done → HasPut tree (now (PutHeld name bytes one two) a cs) (PutHeld name bytes one two) a f.placing.reserved) → Fits (PutHeld name bytes one two) a
-    → LeafTold tree (now (PutHeld name bytes one two) a cs) (PutHeld name bytes one two) a f (leaf_put f (done_of a))
-put_told tree cs f name bytes one two call.Done k put fits =
-    placed_told tree (now (PutHeld name bytes one two) call.Done cs) (PutHeld name bytes one two) call.Done f (placed f)
-    (leaf_put_tells tree (now (PutHeld name bytes one two) call.Done cs) (PutHeld name bytes one two) call.Done f (leaf_later tree f _ cs k) (put refl))
-put_told tree cs f name bytes one two (call.Late until now) k put fits = (refl, λ other. inl refl)
-put_told tree cs f name bytes one two call.Failed k put fits = (refl, λ other. inl (refl, tt))
-put_told tree cs f name bytes one two call.Memory k put fits = (tt, no_memory)
-put_told tree cs f name bytes one two a k put fits = absurd fits
+put_missed : (tree : ℕ) (cs : Calls) (name : ObjName) (bytes : List ℕ) (one : Claim) (two : Option Claim) (a : Answer) (t : Trouble) → Fits (PutHeld name bytes one two) a
+    → done_of a ≡ Err t → IsMissed tree cs (PutHeld name bytes one two) a t
+put_missed tree cs name bytes one two call.Failed t fits e =
+    subst (IsMissed tree cs (PutHeld name bytes one two) call.Failed) (err_is trouble.Failed t e) (λ other. (refl, tt), refl)
+put_missed tree cs name bytes one two call.Memory t fits e = subst (IsMissed tree cs (PutHeld name bytes one two) call.Memory) (err_is trouble.Memory t e) (no_memory, tt)
+put_missed tree cs name bytes one two (call.Late end now) t fits e =
+    subst (IsMissed tree cs (PutHeld name bytes one two) (call.Late end now)) (err_is (trouble.Late end now) t e) (λ other. refl, refl)
+put_missed tree cs name bytes one two call.Done t fits e = absurd (cc (e))
+put_missed tree cs name bytes one two a t fits e = absurd fits
 
 -- a put of the tree object
 pub root_put : (tree other : ℕ) (cs : Calls) (bytes : List ℕ) (l : Claim) (a : Answer) → other ≡ tree → a ≡ call.Done
@@ -248,58 +238,91 @@ pub root_put : (tree other : ℕ) (cs : Calls) (bytes : List ℕ) (l : Claim) (a
 root_put tree other cs bytes l a e done =
     inl (l, ap (λ (t : ℕ). (PutHeld (object.Tree t) bytes l None, a)) e ∙ ap (λ (x : Answer). (PutHeld (object.Tree tree) bytes l None, x)) done)
 
-leaf_told : (tree : ℕ) (cs : Calls) (l : Claim) (f : Folding) (a : Answer) → KnowsLeaf tree f cs → Fits (folding_ask f l) a
-    → LeafTold tree (now (folding_ask f l) a cs) (folding_ask f l) a f (folding_next f a)
-leaf_told tree cs l f a k fits = on f.placing.reserved f.placing.puts k fits where
-  with_placing : Option (List ℕ) → List PagePut → Folding
-  with_placing reserved puts = record f { placing = record { reserved = reserved; puts = puts } }
+-- a call that puts: where it is done, the tree object stands by which it reserved
+record Puts (tree : ℕ) (cs : Calls) (ask : Ask) (a : Answer) (reserved : Option (List ℕ)) : Type 0 where
+  missed : (t : Trouble) → done_of a ≡ Err t → IsMissed tree (now ask a cs) ask a t
+  done : a ≡ call.Done → HasPut tree (now ask a cs) ask a reserved
 
-  on : (reserved : Option (List ℕ)) (puts : List PagePut) → KnowsLeaf tree (with_placing reserved puts) cs → Fits (folding_ask (with_placing reserved puts) l) a
-      → LeafTold tree (now (folding_ask (with_placing reserved puts) l) a cs) (folding_ask (with_placing reserved puts) l) a (with_placing reserved puts) (folding_next (with_placing reserved puts) a)
-  on (Some bytes) puts k fits =
-      put_told tree cs (with_placing (Some bytes) puts) (object.Tree f.chart.tree) bytes l None a k (root_put tree f.chart.tree cs bytes l a k.chart.same) fits
-  on None [] k fits = got_told tree cs (with_placing None []) a refl k fits
-  on None (x ∷ xs) k fits =
-      paged (length (x ∷ xs) == 0) (not_empty (x ∷ xs) (omega arith))
-      (put_told tree cs (with_placing None (x ∷ xs)) (object.Page f.chart.tree x.page) x.bytes l (Some f.lease) a k (λ done. tt) fits) where
-        LeafPage : Next Folding Left → Type 0
-        LeafPage next =
-            LeafTold tree (now (folding_ask (with_placing None (x ∷ xs)) l) a cs) (folding_ask (with_placing None (x ∷ xs)) l) a (with_placing None (x ∷ xs)) next
+is_put : (tree : ℕ) (cs : Calls) (name : ObjName) (bytes : List ℕ) (one : Claim) (two : Option Claim) (a : Answer) (reserved : Option (List ℕ))
+    → (a ≡ call.Done → HasPut tree (now (PutHeld name bytes one two) a cs) (PutHeld name bytes one two) a reserved) → Fits (PutHeld name bytes one two) a
+    → Puts tree cs (PutHeld name bytes one two) a reserved
+is_put tree cs name bytes one two a reserved put fits = record { missed = λ t e. put_missed tree (now (PutHeld name bytes one two) a cs) name bytes one two a t fits e; done = put }
 
-        paged : (b : Bool) → b ≡ false → LeafPage (leaf_put (with_placing None (x ∷ xs)) (done_of a))
-            → LeafPage (cond b (leaf_got (with_placing None (x ∷ xs)) (got_of a)) (leaf_put (with_placing None (x ∷ xs)) (done_of a)))
-        paged true e h = absurd (cc (e))
-        paged false e h = h
+-- what is to be put is put first
+hand_puts : (tree other : ℕ) (cs : Calls) (l : Claim) (two : Option Claim) (last : Ask) (p : Placing) (a : Answer) → other ≡ tree
+    → (has_nothing p ≡ true → Fits last a → Puts tree cs last a None) → Fits (unwrap_or (put_in_hand p other l two) last) a
+    → Puts tree cs (unwrap_or (put_in_hand p other l two) last) a p.reserved
+hand_puts tree other cs l two last p a same behind fits = on p.reserved p.puts behind fits where
+  on : (reserved : Option (List ℕ)) (puts : List PagePut) → (has_nothing (record { reserved = reserved; puts = puts }) ≡ true → Fits last a → Puts tree cs last a None)
+      → Fits (unwrap_or (put_in_hand (record { reserved = reserved; puts = puts }) other l two) last) a
+      → Puts tree cs (unwrap_or (put_in_hand (record { reserved = reserved; puts = puts }) other l two) last) a reserved
+  on (Some bytes) puts behind fits = is_put tree cs (object.Tree other) bytes l None a (Some bytes) (root_put tree other cs bytes l a same) fits
+  on None (x ∷ xs) behind fits = is_put tree cs (object.Page other x.page) x.bytes l two a None (λ done. tt) fits
+  on None [] behind fits = behind refl fits
+
+-- ---- a leaf
+
+leaf_later : (tree : ℕ) (f : Folding) (c : Ask × Answer) (cs : Calls) → KnowsLeaf tree f cs → KnowsLeaf tree f (c ∷ cs)
+leaf_later tree f c cs k = record { chart = chart_more tree f.chart c cs k.chart; way = way_more tree 0 f.low f.page f.visited c cs k.way }
+
+abbrev leaf_get : Folding → Ask
+leaf_get f = GetHeld (object.Page f.chart.tree f.page) f.lease
+
+-- where nothing is to be put the leaf is got
+pub got_next : (f : Folding) (l : Claim) → has_nothing f.placing ≡ true → folding_ask f l ≡ leaf_get f
+got_next f l e = on f.placing.reserved f.placing.puts e where
+  on : (reserved : Option (List ℕ)) (puts : List PagePut) → has_nothing (record { reserved = reserved; puts = puts }) ≡ true
+      → folding_ask (record f { placing = record { reserved = reserved; puts = puts } }) l ≡ leaf_get f
+  on (Some bytes) puts e = absurd (cc (e))
+  on None [] e = refl
+  on None (x ∷ xs) e = absurd (let never : false ≡ true = sym (not_empty (x ∷ xs) (omega arith)) ∙ e in cc (never))
+
+reads_told : {next : Next Folding Left} (tree : ℕ) (cs : Calls) (f : Folding) (a : Answer) (g : Result (Option (List ℕ)) Trouble) → has_nothing f.placing ≡ true → KnowsLeaf tree f cs
+    → Fits (leaf_get f) a → got_of a ≡ g → Reads f g next → LeafTold tree (now (leaf_get f) a cs) (leaf_get f) a f next
+reads_told {next = next} tree cs f a (Ok got) nothing k fits e r =
+    let brought : a ≡ call.Got got = got_of-ok a got e in
+    let new = page_brings tree f.chart.tree f.page f.lease got a k.chart.same brought in
+    leaf_tells_told tree (now (leaf_get f) a cs) (leaf_get f) a f nothing next
+    (reads_tell tree (now (leaf_get f) a cs) (leaf_get f) a got (leaf_later tree f _ cs k) (inl new) new brought r)
+reads_told tree cs f a (Err t) nothing k fits e (leaf.refused u) =
+    let m = get_missed tree (now (leaf_get f) a cs) (object.Page f.chart.tree f.page) f.lease a u fits e in (m.1, λ other. inl (m.0 other))
+
+put_told : {next : Next Folding Left} (tree : ℕ) (cs : Calls) (ask : Ask) (f : Folding) (a : Answer) (done : Result (Unit {0}) Trouble) → KnowsLeaf tree f cs
+    → Puts tree cs ask a f.placing.reserved → done_of a ≡ done → leaf.Lands f done next → LeafTold tree (now ask a cs) ask a f next
+put_told {next = next} tree cs ask f a (Ok x) k put e l =
+    placed_told tree (now ask a cs) ask a f next (lands_tell tree (now ask a cs) ask a (leaf_later tree f _ cs k) (put.done (done_of-ok a e)) l)
+put_told tree cs ask f a (Err t) k put e (leaf.not_put u) = let m = put.missed u e in (m.1, λ other. inl (m.0 other))
+
+leaf_told : {tree : ℕ} {f : Folding} {a : Answer} {next : Next Folding Left} (cs : Calls) (l : Claim) → KnowsLeaf tree f cs → Fits (folding_ask f l) a → leaf.Works f a next
+    → LeafTold tree (now (folding_ask f l) a cs) (folding_ask f l) a f next
+leaf_told {tree = tree} {f = f} {a = a} {next = next} cs l k fits (leaf.gets nothing r) =
+    let asked = got_next f l nothing in
+    subst (λ (ask : Ask). LeafTold tree (now ask a cs) ask a f next) (sym asked) (reads_told tree cs f a (got_of a) nothing k (subst (λ (ask : Ask). Fits ask a) asked fits) refl r)
+leaf_told {tree = tree} {f = f} {a = a} cs l k fits (leaf.puts some w) =
+    let put = hand_puts tree f.chart.tree cs l (Some f.lease) (leaf_get f) f.placing a k.chart.same (λ nothing. absurd (cc (some, nothing))) fits in
+    put_told tree cs (folding_ask f l) f a (done_of a) k put refl w
 
 -- ---- the way up
 
 spent_more : (tree : ℕ) (r : Rising) (c : Ask × Answer) (cs : Calls) → KnowsSpent tree r cs → KnowsSpent tree r (c ∷ cs)
 spent_more tree r c cs k = λ e. ((k e).0, root_more tree (k e).0 c cs (k e).1, (k e).2)
 
-up_told : (tree : ℕ) (cs : Calls) (r : Rising) (name : ObjName) (bytes : List ℕ) (one : Claim) (two : Option Claim) (a : Answer) → Charted tree r.chart cs → KnowsSpent tree r cs
-    → (a ≡ call.Done → HasPut tree (now (PutHeld name bytes one two) a cs) (PutHeld name bytes one two) a r.placing.reserved) → Fits (PutHeld name bytes one two) a
-    → RiseTold tree (now (PutHeld name bytes one two) a cs) (PutHeld name bytes one two) a r (rise.rising_next r a)
-up_told tree cs r name bytes one two call.Done k spent put fits =
-    risen_told tree (now (PutHeld name bytes one two) call.Done cs) (PutHeld name bytes one two) call.Done r refl (rise.put_landed r)
-    (rise_put_tells tree (now (PutHeld name bytes one two) call.Done cs) (PutHeld name bytes one two) call.Done r (chart_more tree r.chart _ cs k) (spent_more tree r _ cs spent) (put refl))
-up_told tree cs r name bytes one two (call.Late until now) k spent put fits = (refl, λ other. inl refl)
-up_told tree cs r name bytes one two call.Failed k spent put fits = (refl, λ other. inl (refl, tt))
-up_told tree cs r name bytes one two call.Memory k spent put fits = (tt, no_memory)
-up_told tree cs r name bytes one two a k spent put fits = absurd fits
+rising_puts : (tree : ℕ) (cs : Calls) (l : Claim) (r : Rising) (a : Answer) → r.chart.tree ≡ tree → IsRising r → Fits (rise.rising_ask r l) a
+    → Puts tree cs (rise.rising_ask r l) a r.placing.reserved
+rising_puts tree cs l r a same some fits = hand_puts tree r.chart.tree cs l None (rise.last_ask r l r.last) r.placing a same (behind r.last refl) fits where
+  behind : (last : Option (List ℕ)) → r.last ≡ last → has_nothing r.placing ≡ true → Fits (rise.last_ask r l last) a → Puts tree cs (rise.last_ask r l last) a None
+  behind (Some bytes) e nothing fits = is_put tree cs (object.Tree r.chart.tree) bytes l None a None (λ done. tt) fits
+  behind None e nothing fits =
+      absurd (let never : false ≡ true = sym (ap (λ (b : Bool). not b || (is_some r.last && not r.is_spent)) nothing
+      ∙ ap (λ (o : Option (List ℕ)). is_some o && not r.is_spent) e) ∙ some in cc (never))
 
-rise_told : (tree : ℕ) (cs : Calls) (l : Claim) (r : Rising) (a : Answer) → Charted tree r.chart cs → IsRising r → KnowsSpent tree r cs → Fits (rise.rising_ask r l) a
-    → RiseTold tree (now (rise.rising_ask r l) a cs) (rise.rising_ask r l) a r (rise.rising_next r a)
-rise_told tree cs l r a k some spent fits = on r.placing.reserved r.placing.puts r.last some fits where
-  with_placing : Option (List ℕ) → List PagePut → Option (List ℕ) → Rising
-  with_placing reserved puts last = record r { placing = record { reserved = reserved; puts = puts }; last = last }
-
-  on : (reserved : Option (List ℕ)) (puts : List PagePut) (last : Option (List ℕ)) → IsRising (with_placing reserved puts last) → Fits (rise.rising_ask (with_placing reserved puts last) l) a
-      → RiseTold tree (now (rise.rising_ask (with_placing reserved puts last) l) a cs) (rise.rising_ask (with_placing reserved puts last) l) a (with_placing reserved puts last) (rise.rising_next (with_placing reserved puts last) a)
-  on (Some bytes) puts last some fits =
-      up_told tree cs (with_placing (Some bytes) puts last) (object.Tree r.chart.tree) bytes l None a k spent (root_put tree r.chart.tree cs bytes l a k.same) fits
-  on None (x ∷ xs) last some fits = up_told tree cs (with_placing None (x ∷ xs) last) (object.Page r.chart.tree x.page) x.bytes l None a k spent (λ done. tt) fits
-  on None [] (Some bytes) some fits = up_told tree cs (with_placing None [] (Some bytes)) (object.Tree r.chart.tree) bytes l None a k spent (λ done. tt) fits
-  on None [] None some fits = absurd (cc (some))
+rise_told : {next : Next Rising (Unit {0})} (tree : ℕ) (cs : Calls) (ask : Ask) (r : Rising) (a : Answer) (done : Result (Unit {0}) Trouble) → Charted tree r.chart cs → KnowsSpent tree r cs
+    → Puts tree cs ask a r.placing.reserved → done_of a ≡ done → climb.Lands r done next → RiseTold tree (now ask a cs) ask a r next
+rise_told {next = next} tree cs ask r a (Ok x) k spent put e l =
+    let is : a ≡ call.Done = done_of-ok a e in
+    risen_told tree (now ask a cs) ask a r is next
+    (rise_put_tells tree (now ask a cs) ask a (chart_more tree r.chart _ cs k) (spent_more tree r _ cs spent) (put.done is) l)
+rise_told tree cs ask r a (Err t) k spent put e (climb.not_put u) = let m = put.missed u e in (m.1, λ other. inl (m.0 other))
 
 onward_later : (tree : ℕ) (o : Onward) (c : Ask × Answer) (cs : Calls) → KnowsOnward tree o cs → KnowsOnward tree o (c ∷ cs)
 onward_later tree (onward.Right m) c cs k = record { chart = chart_more tree m.chart c cs k.chart; way = way_more tree 0 m.low m.page m.visited c cs k.way }
@@ -349,7 +372,7 @@ node_told tree cs a h d (Stops e t) k = (λ other. on k.1, k.0) where
 descent_told : (tree : ℕ) (cs : Calls) (h : Held) (d : Descent) (a : Answer) → KnowsWay tree d cs → Fits (node_ask h d) a
     → DescentTold tree (work.Descending h d) cs a (descent_next d a)
 descent_told tree cs h d (call.Got got) k fits =
-    let new : Brings (object.Page tree d.page) got (node_ask h d, call.Got got) = page_brings tree d.chart.tree d.page h.lease got k.chart.same in
+    let new : Brings (object.Page tree d.page) got (node_ask h d, call.Got got) = page_brings tree d.chart.tree d.page h.lease got (call.Got got) k.chart.same refl in
     node_told tree cs (call.Got got) h d (descent_next d (call.Got got))
     (node_got_tells tree (now (node_ask h d) (call.Got got) cs) (node_ask h d) (call.Got got) d got (way_later tree d _ cs k) (inl new) new)
 descent_told tree cs h d (call.Late until now) k fits = (λ other. inl refl, refl)
@@ -423,7 +446,9 @@ ascends_told : {tree : ℕ} {w : Work} {a : Answer} {h : Held} {next : Next Risi
 ascends_told {tree = tree} {w = w} {a = a} cs k fits (step.begins_up {c = c} s none) =
     begun_told tree w cs a (rise.begun c) (rise.rise (rise.begun c)) (seeks_up cs k s none)
     (rise_tells tree (now (work_ask tree w) a cs) (work_ask tree w) a (rise.begun c) (seeks_knows cs k s) (λ e. absurd (cc (e))))
-ascends_told {tree = tree} cs k fits (step.goes_up h r a) = put_told_up tree cs h r a (rise.rising_next r a) (rise_told tree cs h.lease r a k.0 k.1 k.2 fits)
+ascends_told {tree = tree} cs k fits (step.goes_up h r a) =
+    put_told_up tree cs h r a (rise.rising_next r a)
+    (rise_told tree cs (rise.rising_ask r h.lease) r a (done_of a) k.0 k.2 (rising_puts tree cs h.lease r a k.0.same k.1 fits) refl (climb.lands r (done_of a)))
 
 -- what the work at a leaf demands
 leaf_demands : (tree : ℕ) (h : Held) (f : Folding) (a : Answer) (t : Trouble)
@@ -436,7 +461,7 @@ leaf_demands tree h f a t (inr (nothing, inr s)) =
 
 folds_told : (tree : ℕ) (cs : Calls) (h : Held) (f : Folding) (a : Answer) (next : Next Folding Left) → KnowsLeaf tree f cs → Fits (folding_ask f h.lease) a → folding_next f a ≡ next
     → LeafTold tree (now (folding_ask f h.lease) a cs) (folding_ask f h.lease) a f next
-folds_told tree cs h f a next k fits e = subst (LeafTold tree (now (folding_ask f h.lease) a cs) (folding_ask f h.lease) a f) e (leaf_told tree cs h.lease f a k fits)
+folds_told tree cs h f a next k fits e = subst (LeafTold tree (now (folding_ask f h.lease) a cs) (folding_ask f h.lease) a f) e (leaf_told cs h.lease k fits (leaf.works f a))
 
 leaves_known : (tree : ℕ) (cs : Calls) (ask : Ask) (a : Answer) (f g : Folding) (out : Left) → LeafTold tree cs ask a f (Ends g out) → KnowsOnward tree (onward_from g out) cs
 leaves_known tree cs ask a f g (Right low page) k = record { chart = k.0; way = k.1 }

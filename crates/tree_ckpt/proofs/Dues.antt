@@ -1,5 +1,5 @@
 -- What is due was got, or put by the checkpoint.
-use Rattle.std.proofs.Common.{◌≡◌, ℕ, true, false, List, [], ◌∷◌, Option, Some, None, refl, sym, ap, subst, ◌∙◌, inl, inr, arith}
+use Rattle.std.proofs.Common.{◌≡◌, ℕ, true, List, ◌∷◌, Option, Some, None, sym, ap, subst, ◌∙◌, inl, inr}
 use Rattle.db_base.specs.declared.names.ObjName.TheVariants as object
 use Rattle.cloud_trait.specs.declared.answer.Answer.TheVariants as call
 use Rattle.cloud_trait.specs.Ask.{GetHeld}
@@ -13,21 +13,11 @@ use Rattle.tree_ckpt.specs.Making.{Making, making_ask}
 use Rattle.tree_ckpt.specs.Causes.{Calls, WasGot, WasRoot, WasLeaf}
 use Rattle.tree_ckpt.specs.Due.{Due, LeafDue, NodeDue, RootDue, GetsLeaf, IsUp, IsDue, IsCutShort, WasBrought, WasLastButOne}
 use Rattle.tree_ckpt.specs.Stepped.{calls_with}
-use Rattle.tree_ckpt.proofs.Words.{Answer, Claim, Deed, calls_of, Ask, PagePut, Folding, Rising, Work}
+use Rattle.tree_ckpt.proofs.Words.{Answer, Claim, Deed, calls_of, Ask, Folding, Rising, Work}
 use Rattle.tree_ckpt.proofs.Brought.{Charted, IsKeptNode, root_more, chart_more}
-use Rattle.tree_ckpt.proofs.Causes.{KnowsAt, root_put}
-use Rattle.tree_ckpt.proofs.Folds.{not_empty}
+use Rattle.tree_ckpt.proofs.Causes.{KnowsAt, root_put, got_next}
 use Rattle.tree_ckpt.proofs.Plots.{HasPut, chart_landed}
 use Rattle.tree_ckpt.proofs.Rises.{kept_at}
-
--- where nothing is to be put the leaf is got
-got_next : (f : Folding) (l : Claim) → has_nothing f.placing ≡ true → folding_ask f l ≡ GetHeld (object.Page f.chart.tree f.page) f.lease
-got_next f l e = on f.placing.reserved f.placing.puts e where
-  on : (reserved : Option (List ℕ)) (puts : List PagePut) → has_nothing (record { reserved = reserved; puts = puts }) ≡ true
-      → folding_ask (record f { placing = record { reserved = reserved; puts = puts } }) l ≡ GetHeld (object.Page f.chart.tree f.page) f.lease
-  on (Some bytes) puts e = absurd (cc (e))
-  on None [] e = refl
-  on None (x ∷ xs) e = absurd (let never : false ≡ true = sym (not_empty (x ∷ xs) (omega arith)) ∙ e in cc (never))
 
 module _ (tree : ℕ) (cs : Calls) (a : Answer) where
   -- with the call of the work in hand

@@ -1,10 +1,11 @@
 -- A tree checkpoint ends: each step that goes on leaves fewer calls.
-use Rattle.std.proofs.Common.{◌≡◌, ◌<◌, ◌≤◌, ◌+◌, ◌-◌, ◌*◌, ℕ, Bool, true, false, cond, List, [], ◌∷◌, length, Option, Some, None, Result, Ok, Err, refl, sym, ap, subst, ◌∙◌, arith}
+use Rattle.std.proofs.Common.{◌≡◌, ◌<◌, ◌≤◌, ◌+◌, ◌-◌, ◌*◌, ℕ, Bool, true, false, cond, List, [], ◌∷◌, length, Option, Some, None, Result, sym, ap, subst, ◌∙◌, arith}
+use Rattle.std.specs.Prelude.{◌==◌}
 use Rattle.std.proofs.lemmas.Option.{slice_get_within}
 use Rattle.db_base.specs.declared.names.QueueName.TheVariants as queue
 use Rattle.ckpt_parts.specs.Deleting.{tried}
 use Rattle.ckpt_parts.specs.Leasing.{claims_of, newest_lease, without_newest}
-use Rattle.tree_phases.specs.Placing.{has_nothing, landed_placing}
+use Rattle.tree_phases.specs.Placing.{has_nothing, has_one_page, landed_placing}
 use Rattle.tree_phases.specs.Read.{tree_held}
 use Rattle.tree_phases.specs.Descent.{descent_next}
 use Rattle.tree_phases.specs.declared.folding.Left.TheVariants.{Right, Handled}
@@ -17,11 +18,12 @@ use Rattle.tree_ckpt.specs.Way.{from_root}
 use Rattle.tree_ckpt.specs.End.{most, above, unhandled, behind_key, from_on_or_none, a_key, puts_left, up_by, up_left, the_end, ids_in, on_the_way, calls_in, IsShortChart, IsShort}
 use Rattle.tree_ckpt.specs.Leases.{HasIds}
 use Rattle.tree_ckpt.specs.Making.{Making, making_ask, MakingLeads, KeepsLeases}
-use Rattle.tree_ckpt.proofs.Words.{Trouble, PuItem, Answer, CkptAnswer, Turn, More, Claim, Next, Goes, Ends, Stops, Took, got_of, done_of, Fits, PagePut, Leases, Chart, KeptNode, Placing, Descent, Folding, Left, Rising, Held, Work}
+use Rattle.tree_ckpt.proofs.Words.{Trouble, PuItem, Answer, CkptAnswer, Turn, More, Claim, Next, Goes, Ends, Stops, Took, done_of, Fits, PagePut, Leases, Chart, KeptNode, Placing, Descent, Folding, Left, Rising, Held, Work}
 use Rattle.tree_ckpt.proofs.Outcomes.{Seeks, Descends, Ascends, Clears, Fails, Comes, comes, has_ids}
 use Rattle.tree_ckpt.proofs.Outcomes as step
+use Rattle.tree_ckpt.proofs.LeafOutcomes as leaf
 use Rattle.tree_ckpt.proofs.Charts.{GoesFurther, arrive_further, descent_further}
-use Rattle.tree_ckpt.proofs.Folds.{not_empty, GetLeaves, PutLeaves, got_leaves, put_leaves}
+use Rattle.tree_ckpt.proofs.Folds.{not_empty, GetLeaves, reads_leave}
 use Rattle.tree_ckpt.proofs.Keys.{next_fewer, from_most}
 use Rattle.tree_ckpt.proofs.Received.{takes_length}
 use Rattle.tree_ckpt.proofs.RiseOutcomes.{Rises, Lands, lands}
@@ -173,65 +175,80 @@ ascends_less fits (step.goes_up h r a) = record { calls = up_left r; below = lan
 
 -- ---- a leaf
 
-nothing_false : (p : Placing) → 0 < length p.puts → has_nothing p ≡ false
-nothing_false p some = on p.reserved p.puts some where
-  on : (reserved : Option (List ℕ)) (puts : List PagePut) → 0 < length puts → has_nothing (record { reserved = reserved; puts = puts }) ≡ false
-  on (Some bytes) puts some = refl
-  on None puts some = not_empty puts some
+-- the calls that are left with this to be put
+abbrev leaf_calls : Held → Chart → Placing → ℕ
+leaf_calls h c p = cond (length p.puts == 0) (on_the_way h c (behind_key c) (puts_left p + most + 6)) (on_the_way h c (unhandled c) (puts_left p + 2))
 
--- with a page to be put
-calls_at : (h : Held) (f : Folding) → 0 < length f.placing.puts → calls_in (work.Folding h f) ≡ on_the_way h f.chart (unhandled f.chart) (puts_left f.placing + 2)
-calls_at h f some =
-    ap (λ (n : Bool). cond n (on_the_way h f.chart (behind_key f.chart) (puts_left f.placing + most + 6)) (on_the_way h f.chart (unhandled f.chart) (puts_left f.placing + 2)))
-    (not_empty f.placing.puts some)
+leaf_many : (h : Held) (c : Chart) (p : Placing) → 2 < leaf_calls h c p
+leaf_many h c p = on (length p.puts == 0) where
+  on : (b : Bool) → 2 < cond b (on_the_way h c (behind_key c) (puts_left p + most + 6)) (on_the_way h c (unhandled c) (puts_left p + 2))
+  on true = omega arith
+  on false = omega arith
+
+calls_paged : (h : Held) (c : Chart) (p : Placing) → 0 < length p.puts → leaf_calls h c p ≡ on_the_way h c (unhandled c) (puts_left p + 2)
+calls_paged h c p some =
+    ap (λ (n : Bool). cond n (on_the_way h c (behind_key c) (puts_left p + most + 6)) (on_the_way h c (unhandled c) (puts_left p + 2))) (not_empty p.puts some)
+
+calls_got : (h : Held) (c : Chart) (p : Placing) → has_nothing p ≡ true → leaf_calls h c p ≡ on_the_way h c (behind_key c) (most + 6)
+calls_got h c p e = on p.reserved p.puts e where
+  on : (reserved : Option (List ℕ)) (puts : List PagePut) → has_nothing (record { reserved = reserved; puts = puts }) ≡ true
+      → leaf_calls h c (record { reserved = reserved; puts = puts }) ≡ on_the_way h c (behind_key c) (most + 6)
+  on (Some bytes) puts f = absurd (cc (f))
+  on None [] f = omega arith
+  on None (x ∷ xs) f = absurd (let some = not_empty (x ∷ xs) (omega arith) in cc (some, f))
+
+-- behind a put one fewer is left
+one_less : (h : Held) (c : Chart) (p : Placing) → has_nothing p ≡ false → has_one_page p ≡ false → leaf_calls h c (landed_placing p) < leaf_calls h c p
+one_less h c p some more = on p.reserved p.puts some more where
+  on : (reserved : Option (List ℕ)) (puts : List PagePut) → has_nothing (record { reserved = reserved; puts = puts }) ≡ false
+      → has_one_page (record { reserved = reserved; puts = puts }) ≡ false
+      → leaf_calls h c (landed_placing (record { reserved = reserved; puts = puts })) < leaf_calls h c (record { reserved = reserved; puts = puts })
+  on (Some bytes) puts f g = pages (length puts == 0) where
+    pages : (b : Bool) → cond b (on_the_way h c (behind_key c) (0 + length puts + most + 6)) (on_the_way h c (unhandled c) (0 + length puts + 2))
+        < cond b (on_the_way h c (behind_key c) (1 + length puts + most + 6)) (on_the_way h c (unhandled c) (1 + length puts + 2))
+    pages true = omega arith
+    pages false = omega arith
+  on None [] f g = absurd (cc (f))
+  on None (x ∷ []) f g = absurd (cc (g))
+  on None (x ∷ y ∷ ys) f g =
+      omega (
+        arith,
+        calls_paged h c (record { reserved = None; puts = y ∷ ys }) (omega arith),
+        calls_paged h c (record { reserved = None; puts = x ∷ y ∷ ys }) (omega arith),
+      )
+
+last_less : (h : Held) (c : Chart) (p : Placing) → has_one_page p ≡ true → on_the_way h c (unhandled c) 1 < leaf_calls h c p
+last_less h c p last = on p.reserved p.puts last where
+  on : (reserved : Option (List ℕ)) (puts : List PagePut) → has_one_page (record { reserved = reserved; puts = puts }) ≡ true
+      → on_the_way h c (unhandled c) 1 < leaf_calls h c (record { reserved = reserved; puts = puts })
+  on (Some bytes) puts f = absurd (cc (f))
+  on None [] f = absurd (cc (f))
+  on None (x ∷ xs) f = omega (arith, calls_paged h c (record { reserved = None; puts = x ∷ xs }) (omega arith))
 
 below_got : (h : Held) (f : Folding) (next : Next Folding Left) → GetLeaves f next
     → Below (on_the_way h f.chart (behind_key f.chart) (most + 6)) (folding_on h next)
 unfolding Below
 below_got h f (Goes g) got = λ short.
-    omega (arith, calls_at h g got.1, got.0.left, got.0.nodes, got.0.links, reserved_most g.placing short.1, short.0.nodes, short.0.links)
+    omega (arith, calls_paged h g.chart g.placing got.1, got.0.left, got.0.nodes, got.0.links, reserved_most g.placing short.1, short.0.nodes, short.0.links)
 below_got h f (Ends g (Right low page)) got = λ short.
     omega (arith, got.links, ap (λ (ns : List KeptNode). length ns) got.nodes, short.links, behind_same f.chart g.chart got.run got.key)
 below_got h f (Ends g Handled) got = λ short. omega (arith, got.left, got.nodes, got.links)
 below_got h f (Stops g t) got = λ short. omega arith
 
-unhandled_same : (c e : Chart) → e.run ≡ c.run → e.from ≡ c.from → unhandled e ≡ unhandled c
-unhandled_same c e run from = ap (λ (k : Option (List ℕ)). from_on_or_none k e.run.items) from ∙ ap (λ (r : _). from_on_or_none c.from r.items) run
-
-below_put : (h : Held) (f : Folding) (next : Next Folding Left) → PutLeaves f next
-    → Below (on_the_way h f.chart (unhandled f.chart) (puts_left f.placing + 2)) (folding_on h next)
+below_put : {f : Folding} {done : Result (Unit {0}) Trouble} {next : Next Folding Left} (h : Held) → has_nothing f.placing ≡ false → leaf.Lands f done next
+    → Below (leaf_calls h f.chart f.placing) (folding_on h next)
 unfolding Below
-below_put h f (Goes g) put = λ short.
-    omega (arith, calls_at h g put.6, put.4, unhandled_same f.chart g.chart put.0 put.1, ap (λ (ns : List KeptNode). length ns) put.2, ap (λ (ls : _). length ls) put.3)
-below_put h f (Ends g (Right low page)) put = absurd put
-below_put h f (Ends g Handled) put = λ short.
-    omega (arith, unhandled_same f.chart g.chart put.0 put.1, ap (λ (ns : List KeptNode). length ns) put.2, ap (λ (ls : _). length ls) put.3)
-below_put h f (Stops g t) put = λ short. omega arith
+below_put {f = f} h some (leaf.not_put t) = λ short. leaf_many h f.chart f.placing
+below_put {f = f} h some (leaf.lands x more) = λ short. one_less h f.chart f.placing some more
+below_put {f = f} h some (leaf.is_put x last) = λ short. last_less h f.chart f.placing last
 
--- a page is put
-below_paged : (h : Held) (f : Folding) (a : Answer) → 0 < length f.placing.puts → Below (calls_in (work.Folding h f)) (folding_on h (fold.folding_next f a))
-below_paged h f a some = on (has_nothing f.placing) (nothing_false f.placing some) where
-  on : (b : Bool) → b ≡ false → Below (calls_in (work.Folding h f)) (folding_on h (cond b (fold.leaf_got f (got_of a)) (fold.leaf_put f (done_of a))))
-  on true e = absurd (cc (e))
-  on false e =
-      subst (λ (n : ℕ). Below n (folding_on h (fold.leaf_put f (done_of a)))) (sym (calls_at h f some)) (below_put h f (fold.leaf_put f (done_of a)) (put_leaves f (done_of a) some))
+works_less : {f : Folding} {a : Answer} {next : Next Folding Left} (h : Held) → leaf.Works f a next → Below (leaf_calls h f.chart f.placing) (folding_on h next)
+works_less {f = f} {next = next} h (leaf.gets nothing r) =
+    subst (λ (n : ℕ). Below n (folding_on h next)) (sym (calls_got h f.chart f.placing nothing)) (below_got h f next (reads_leave r))
+works_less h (leaf.puts some l) = below_put h some l
 
--- a reservation behind which no page is planned: the leaf is got again
-below_reserved : (h : Held) (f : Folding) (bytes : List ℕ) (done : Result (Unit {0}) Trouble) → f.placing ≡ record { reserved = Some bytes; puts = [] }
-    → Below (on_the_way h f.chart (behind_key f.chart) (most + 7)) (folding_on h (fold.leaf_put f done))
-unfolding Below
-below_reserved h f bytes (Ok x) e = subst (λ (p : Placing). Below (on_the_way h f.chart (behind_key f.chart) (most + 7)) (folding_on h (fold.placed (record f { placing = p })))) (sym e) (λ short. omega arith)
-below_reserved h f bytes (Err t) e = λ short. omega arith
-
-below_folded : (h : Held) (f : Folding) (a : Answer) → Below (calls_in (work.Folding h f)) (folding_on h (fold.folding_next f a))
-below_folded h f a = on f.placing.reserved f.placing.puts where
-  with_placing : Option (List ℕ) → List PagePut → Folding
-  with_placing reserved puts = record f { placing = record { reserved = reserved; puts = puts } }
-
-  on : (reserved : Option (List ℕ)) (puts : List PagePut) → Below (calls_in (work.Folding h (with_placing reserved puts))) (folding_on h (fold.folding_next (with_placing reserved puts) a))
-  on None [] = below_got h (with_placing None []) (fold.leaf_got (with_placing None []) (got_of a)) (got_leaves (with_placing None []) (got_of a))
-  on (Some bytes) [] = below_reserved h (with_placing (Some bytes) []) bytes (done_of a) refl
-  on reserved (x ∷ xs) = below_paged h (with_placing reserved (x ∷ xs)) a (omega arith)
+below_folded : (h : Held) (f : Folding) (a : Answer) (next : Next Folding Left) → fold.folding_next f a ≡ next → Below (calls_in (work.Folding h f)) (folding_on h next)
+below_folded h f a next e = subst (λ (x : Next Folding Left). Below (calls_in (work.Folding h f)) (folding_on h x)) e (works_less h (leaf.works f a))
 
 -- ---- deletions and releases
 
@@ -269,7 +286,7 @@ released_less None second l e = absurd (none second e) where
 -- two leases at most are left to be given back
 fails_less : {tree : ℕ} {w : Work} {a : Answer} {held : Leases} {t : Trouble} → Fits (work_ask tree w) a → Fails tree w a held t → Below (calls_in w) (stopping held t)
 unfolding Below
-fails_less fits (step.no_leaf h f g a t e) = subst (λ (next : Next Folding Left). Below (calls_in (work.Folding h f)) (folding_on h next)) e (below_folded h f a)
+fails_less fits (step.no_leaf h f g a t e) = below_folded h f a (Stops g t) e
 fails_less fits (step.no_way d t way) = λ short. way_many fits way
 fails_less {w = w} fits (step.no_ascent {h = h} r t on) =
     let up : IsAscent (calls_in w) h (Stops r t) = ascends_less fits on in
@@ -284,8 +301,8 @@ step_less fits (step.refused a t e) = tt
 step_less fits (step.stops held t f) = fails_less fits f
 step_less fits (step.descends h d way) = descends_less fits way
 step_less fits (step.arrives h d x way) = λ short. let less = descends_less fits way short in omega (arith, less)
-step_less fits (step.folds h f g a e) = subst (λ (next : Next Folding Left). Below (calls_in (work.Folding h f)) (folding_on h next)) e (below_folded h f a)
-step_less fits (step.leaves h f g out a e) = subst (λ (next : Next Folding Left). Below (calls_in (work.Folding h f)) (folding_on h next)) e (below_folded h f a)
+step_less fits (step.folds h f g a e) = below_folded h f a (Goes g) e
+step_less fits (step.leaves h f g out a e) = below_folded h f a (Ends g out) e
 step_less {w = w} fits (step.ascends h r on) =
     let up : IsAscent (calls_in w) h (Goes r) = ascends_less fits on in
     let few = up.few in λ short. let less = up.below short.0 short.1 in omega (arith, less, few)

@@ -12,13 +12,13 @@ use Rattle.split_plan.specs.Part.{LeafPart, record_key, part_of_leaf}
 use Rattle.split_plan.specs.Plan.{put_of, on_pages, leaf_bytes, leaf_pieces}
 use Rattle.split_plan.specs.Sizes.{count_of, cuts_of}
 use Rattle.tree_phases.specs.Kept.{links_at}
-use Rattle.tree_phases.specs.Placing.{has_nothing, puts_after}
+use Rattle.tree_phases.specs.Placing.{puts_after}
 use Rattle.tree_phases.specs.Read.{tree_held}
 use Rattle.tree_phases.specs.Reserve.{reservation, version_spent}
 use Rattle.tree_phases.specs.declared.folding.Left.TheVariants.{Right, Handled}
 use Rattle.tree_phases.specs.Plan as plan
-use Rattle.tree_phases.specs.Folding.{FoldingStep, leaf_got, leaf_put, folding_next}
-use Rattle.tree_ckpt.specs.End.{unhandled, behind_key, puts_left, from_on_or_none}
+use Rattle.tree_phases.specs.Folding.{FoldingStep, leaf_got, folding_next}
+use Rattle.tree_ckpt.specs.End.{unhandled, behind_key, from_on_or_none}
 use Rattle.tree_ckpt.specs.Leases.{IsPlanned}
 use Rattle.tree_ckpt.proofs.Words.{Trouble, PuItem, Answer, Goes, Ends, Stops, PagePut, Chart, Reserved, Folding, PagePlan}
 use Rattle.tree_ckpt.proofs.LeafOutcomes.{Reads, Lands, Works, reads, put_lands, works}
@@ -87,7 +87,7 @@ handled_left : (f : Folding) (high : Option (List ℕ)) → below_bound f.chart.
 handled_left f None below = omega arith
 handled_left f (Some high) below = from_above f.chart.key high f.chart.run.items below
 
-reads_leave : {f : Folding} {g : Result (Option (List ℕ)) Trouble} {next : FoldingStep} → Reads f g next → GetLeaves f next
+pub reads_leave : {f : Folding} {g : Result (Option (List ℕ)) Trouble} {next : FoldingStep} → Reads f g next → GetLeaves f next
 reads_leave {f = f} (step.passes got l high right behind new) =
     record { run = refl; key = refl; nodes = refl; links = length-append f.chart.links (record { level = 1; low = high; page = right } ∷ []) }
 reads_leave {f = f} (step.spares got l here none) = record { left = handled_left f l.high here.below; nodes = omega arith; links = omega arith }
@@ -101,34 +101,14 @@ got_leaves f got = reads_leave (reads f got)
 
 -- ---- a put
 
--- after a put of a leaf one fewer is left
-abbrev pub PutLeaves : Folding → FoldingStep → Type 0
-PutLeaves f (Goes g) =
-    (g.chart.run ≡ f.chart.run) × (g.chart.from ≡ f.chart.from) × (g.chart.nodes ≡ f.chart.nodes) × (g.chart.links ≡ f.chart.links)
-    × (puts_left g.placing + 1 ≤ puts_left f.placing) × (has_nothing g.placing ≡ false) × (0 < length g.placing.puts)
-PutLeaves f (Ends g (Right low page)) = ⊥
-PutLeaves f (Ends g Handled) =
-    (g.chart.run ≡ f.chart.run) × (g.chart.from ≡ f.chart.from) × (g.chart.nodes ≡ f.chart.nodes) × (g.chart.links ≡ f.chart.links)
-PutLeaves f (Stops g t) = Unit {0}
-
 pub not_empty : {X : Type 0} (xs : List X) → 0 < length xs → (length xs == 0) ≡ false
 not_empty xs h = ne_eqb (length xs) 0 (λ e. omega (arith, e, h))
 
-fewer : (reserved : Option (List ℕ)) (puts : List PagePut) → (is_none reserved && (length puts == 1)) ≡ false → 0 < length puts
-    → (puts_left (record { reserved = None; puts = puts_after reserved puts }) + 1 ≤ puts_left (record { reserved = reserved; puts = puts }))
-    × (has_nothing (record { reserved = None; puts = puts_after reserved puts }) ≡ false) × (0 < length (puts_after reserved puts))
-fewer (Some bytes) puts more some = (omega arith, not_empty puts some, some)
-fewer None [] more some = absurd (omega (arith, some))
-fewer None (x ∷ []) more some = absurd (cc (more))
-fewer None (x ∷ y ∷ ys) more some = (omega arith, not_empty (y ∷ ys) (omega arith), omega arith)
-
-lands_leave : {f : Folding} {done : Result (Unit {0}) Trouble} {next : FoldingStep} → 0 < length f.placing.puts → Lands f done next → PutLeaves f next
-lands_leave some (step.not_put t) = tt
-lands_leave some (step.is_put x e) = (refl, refl, refl, refl)
-lands_leave {f = f} some (step.lands x e) = let less = fewer f.placing.reserved f.placing.puts e some in (refl, refl, refl, refl, less.0, less.1, less.2)
-
-pub put_leaves : (f : Folding) (done : Result (Unit {0}) Trouble) → 0 < length f.placing.puts → PutLeaves f (leaf_put f done)
-put_leaves f done some = lands_leave some (put_lands f done)
+more_pages : (reserved : Option (List ℕ)) (puts : List PagePut) → (is_none reserved && (length puts == 1)) ≡ false → 0 < length puts → 0 < length (puts_after reserved puts)
+more_pages (Some bytes) puts more some = some
+more_pages None [] more some = absurd (omega (arith, some))
+more_pages None (x ∷ []) more some = absurd (cc (more))
+more_pages None (x ∷ y ∷ ys) more some = omega arith
 
 -- ---- what is planned has a page
 
@@ -142,7 +122,7 @@ reads_plan {f = f} (step.plans got l x xs p here some e) = λ more. plan_some (t
 reads_plan c = tt
 
 lands_plan : {f : Folding} {done : Result (Unit {0}) Trouble} {next : FoldingStep} → 0 < length f.placing.puts → Lands f done next → PlansAfter next
-lands_plan {f = f} some (step.lands x e) = λ more. (fewer f.placing.reserved f.placing.puts e some).2
+lands_plan {f = f} some (step.lands x e) = λ more. more_pages f.placing.reserved f.placing.puts e some
 lands_plan some c = tt
 
 works_plan : {f : Folding} {a : Answer} {next : FoldingStep} → IsPlanned f → Works f a next → PlansAfter next

@@ -15,7 +15,7 @@ use Rattle.ckpt_parts.specs.Intakes.{has_items}
 use Rattle.tree_phases.specs.Placing.{root_after, landed_root}
 use Rattle.tree_phases.specs.Read.{tree_held}
 use Rattle.tree_phases.specs.declared.folding.Left.TheVariants.{Right, Handled}
-use Rattle.tree_phases.specs.Folding.{FoldingStep, leaf_got, landed, placed}
+use Rattle.tree_phases.specs.Folding.{FoldingStep, landed}
 use Rattle.tree_ckpt.specs.Causes.{Calls, Brings, WasGot, WasPut, WasRoot, WasLeaf, WasRead, IsLink, Shows}
 use Rattle.tree_ckpt.specs.Working.{HoldsLeaf}
 use Rattle.tree_ckpt.specs.Due.{Due, LeafDue, GetsLeaf}
@@ -95,7 +95,7 @@ module _ (tree : ℕ) (cs : Calls) (ask : Ask) (a : Answer) where
       let w : WasLeaf tree f.page l cs = was_leaf f.page l got behind.holds g in
       (inr (inr (f.page, l, w, refl, behind.goes)), leaf_read_from f.page l high w behind.goes.0)
 
-  reads_tell : {f : Folding} {next : FoldingStep} (got : Option (List ℕ)) → KnowsLeaf tree f cs → WasGot (object.Page tree f.page) got cs → Brings (object.Page tree f.page) got (ask, a)
+  pub reads_tell : {f : Folding} {next : FoldingStep} (got : Option (List ℕ)) → KnowsLeaf tree f cs → WasGot (object.Page tree f.page) got cs → Brings (object.Page tree f.page) got (ask, a)
       → a ≡ call.Got got → Reads f (Ok got) next → LeafTells f next
   reads_tell {f = f} got k g new brought (step.absent other) = ((eqb-false f.page 1 other, new, (0, f.low, k.way.link)), inl (refl, eqb-false f.page 1 other, brought))
   reads_tell {f = f} got k g new brought (step.wrong bytes left e) = (
@@ -132,10 +132,6 @@ module _ (tree : ℕ) (cs : Calls) (ask : Ask) (a : Answer) where
         inr (record { l = l; gets = leaf_gets f.page l got here.holds brought; promised = here.promised; stays = here.below; lacks = ap has_items some; spent = spent }),
       )
 
-  pub leaf_got_tells : (f : Folding) (got : Option (List ℕ)) → KnowsLeaf tree f cs → WasGot (object.Page tree f.page) got cs → Brings (object.Page tree f.page) got (ask, a)
-      → LeafTells f (leaf_got f (Ok got))
-  leaf_got_tells f got k g new = reads_tell got k g new (ap (λ (c : Ask × Answer). c.1) new.1) (reads f (Ok got))
-
   -- ---- puts
 
   -- where a reservation landed, it is the newest tree object
@@ -157,10 +153,7 @@ module _ (tree : ℕ) (cs : Calls) (ask : Ask) (a : Answer) where
   PlacedTells (Ends g Handled) = Charted tree g.chart cs
   PlacedTells (Stops g t) = ⊥
 
-  lands_tell : {f : Folding} {next : FoldingStep} → KnowsLeaf tree f cs → HasPut f.placing.reserved → Lands f (Ok tt) next → PlacedTells next
+  pub lands_tell : {f : Folding} {next : FoldingStep} → KnowsLeaf tree f cs → HasPut f.placing.reserved → Lands f (Ok tt) next → PlacedTells next
   lands_tell {f = f} k put (step.lands x e) = record { chart = chart_landed f.chart f.placing k.chart put; way = k.way }
   lands_tell {f = f} k put (step.is_put x e) =
       let after : Charted tree (landed f).chart cs = chart_landed f.chart f.placing k.chart put in record { same = after.same; root = after.root; nodes = after.nodes }
-
-  pub leaf_put_tells : (f : Folding) → KnowsLeaf tree f cs → HasPut f.placing.reserved → PlacedTells (placed f)
-  leaf_put_tells f k put = lands_tell k put (put_lands f (Ok tt))

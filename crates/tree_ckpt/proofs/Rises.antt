@@ -12,7 +12,7 @@ use Rattle.tree_phases.specs.Placing.{has_nothing}
 use Rattle.tree_phases.specs.Read.{inner_read, tree_held}
 use Rattle.tree_phases.specs.Reserve.{version_spent, reservation}
 use Rattle.tree_phases.specs.Nodes as nodes
-use Rattle.tree_phases.specs.Rising.{RisingStep, next_touched, touched_node, rise, landed, put_landed}
+use Rattle.tree_phases.specs.Rising.{RisingStep, next_touched, touched_node, rise, landed}
 use Rattle.tree_ckpt.specs.Causes.{Calls, Shows}
 use Rattle.tree_ckpt.specs.Due.{NodeDue, RootDue, WasLastButOne}
 use Rattle.tree_ckpt.proofs.Words.{Trouble, Answer, Goes, Ends, Stops, Ask, KeptNode, Placing, Reserved, Rising, PagePlan, RootPlan}
@@ -141,13 +141,9 @@ module _ (tree : ℕ) (cs : Calls) (ask : Ask) (a : Answer) where
   put_tells r (Ends n x) some nothing between h = h
   put_tells r (Stops n t) some nothing between h = (h.0, (some, nothing, inl (between, h.1)))
 
-  lands_tell : {r : Rising} {next : RisingStep} (done : Result (Unit {0}) Trouble) → done ≡ Ok tt → Charted tree (landed r).chart cs → KnowsSpent tree r cs → Lands r done next → PutTells r next
-  lands_tell done e after spent (step.not_put t) = absurd (cc (e))
-  lands_tell done e after spent (step.is_last x nothing) = tt
-  lands_tell done e after spent (step.more x some up) = (after, up, spent)
-  lands_tell done e after spent (step.cut_short x some nothing behind short) = (tt, (some, nothing, inr (behind, short, refl)))
-  lands_tell {r = r} {next = next} done e after spent (step.goes_on x some nothing between up) =
-      put_tells r next some nothing between (rises_tell after spent up)
-
-  pub rise_put_tells : (r : Rising) → Charted tree r.chart cs → KnowsSpent tree r cs → HasPut tree cs ask a r.placing.reserved → PutTells r (put_landed r)
-  rise_put_tells r k spent put = lands_tell (Ok tt) refl (chart_landed tree cs ask a r.chart r.placing k put) spent (lands r (Ok tt))
+  pub rise_put_tells : {r : Rising} {next : RisingStep} → Charted tree r.chart cs → KnowsSpent tree r cs → HasPut tree cs ask a r.placing.reserved → Lands r (Ok tt) next → PutTells r next
+  rise_put_tells k spent put (step.is_last x nothing) = tt
+  rise_put_tells {r = r} k spent put (step.more x some on) = (chart_landed tree cs ask a r.chart r.placing k put, on, spent)
+  rise_put_tells k spent put (step.cut_short x some nothing behind short) = (tt, (some, nothing, inr (behind, short, refl)))
+  rise_put_tells {r = r} {next = next} k spent put (step.goes_on x some nothing between on) =
+      put_tells r next some nothing between (rises_tell (chart_landed tree cs ask a r.chart r.placing k put) spent on)

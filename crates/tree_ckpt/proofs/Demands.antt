@@ -1,7 +1,7 @@
 -- A tree checkpoint stops for what the answer of its call demands.
-use Rattle.std.proofs.Common.{◌≡◌, ◌≢◌, ◌⊎◌, ℕ, Bool, true, false, cond, List, [], ◌∷◌, Option, Some, None, Result, Ok, Err, refl, sym, ap, subst, inl, inr, ◌∙◌}
-use Rattle.std.specs.Prelude.{◌==◌, ◌||◌, ◌&&◌, ◌+◌, not, is_some}
-use Rattle.std.proofs.lemmas.Bool.{eq-eqb, ne_eqb}
+use Rattle.std.proofs.Common.{◌≡◌, ◌≢◌, ◌⊎◌, ℕ, Bool, true, false, List, [], ◌∷◌, Option, Some, None, Result, Ok, Err, refl, sym, ap, subst, inl, inr, ◌∙◌}
+use Rattle.std.specs.Prelude.{◌==◌, ◌||◌, ◌&&◌, not, is_some}
+use Rattle.std.proofs.lemmas.Bool.{eq-eqb}
 use Rattle.db_base.specs.declared.names.Lock.TheVariants as lock
 use Rattle.db_base.specs.declared.names.ObjName.TheVariants as object
 use Rattle.db_base.specs.declared.names.Place.TheVariants as place
@@ -10,8 +10,8 @@ use Rattle.db_base.specs.declared.trouble.Trouble.TheVariants as trouble
 use Rattle.db_base.specs.declared.trouble.Counter.TheVariants as counter
 use Rattle.byte_format.specs.Order.{below_bound, bytes_same, bytes_below}
 use Rattle.byte_format.specs.Whole.{whole, offset}
-use Rattle.leaf_view.specs.Leaf.{Leaf, leaf}
-use Rattle.leaf_view.specs.Lookup.{empty_leaf, page_at}
+use Rattle.leaf_view.specs.Leaf.{Leaf, leaf as leaf_format}
+use Rattle.leaf_view.specs.Lookup.{page_at}
 use Rattle.leaf_edit.specs.Lacked.{lacked}
 use Rattle.node_codec.specs.Inner.{inner_of, inner_format}
 use Rattle.node_codec.specs.Tree.{Tree, tree_of, tree_format}
@@ -22,14 +22,13 @@ use Rattle.ckpt_parts.specs.Intakes.{has_items, message_damage, TakesItems}
 use Rattle.ckpt_parts.specs.Leasing.{newest_lease, without_newest}
 use Rattle.run_cursor.specs.Covered.{is_seen}
 use Rattle.tree_phases.specs.Placing.{has_nothing}
-use Rattle.tree_phases.specs.Read.{damaged, leaf_or, tree_held}
+use Rattle.tree_phases.specs.Read.{damaged, tree_held}
 use Rattle.tree_phases.specs.Reserve.{version_spent, pages_spent, next_tree}
-use Rattle.tree_phases.specs.Descent.{fork_of, arrive, absent_node, with_node, got_node, descent_got}
-use Rattle.tree_phases.specs.declared.folding.Left.TheVariants.{Right}
+use Rattle.tree_phases.specs.Descent.{fork_of, arrive, with_node, got_node, descent_got}
 use Rattle.tree_phases.specs.Plan.{leaf_plan}
-use Rattle.tree_phases.specs.Folding.{folding_ask, turned, to_right, planned, handled_by, handle, leaf_got, leaf_put, leaf_at, leaf_side, leaf_found, bad_low}
+use Rattle.tree_phases.specs.Folding.{FoldingStep, folding_ask, folding_next, bad_low}
 use Rattle.tree_phases.specs.Nodes.{node_plan}
-use Rattle.tree_phases.specs.Rising.{rising_ask, next_touched, touched_node, put_node, put_root, plan_of, last_plan, rise_at, rise, landed, after_put}
+use Rattle.tree_phases.specs.Rising.{RisingStep, rising_ask, touched_node, plan_of, last_plan, rise}
 use Rattle.tree_phases.specs.Rising as rising
 use Rattle.tree_phases.specs.Root.{risen_by}
 use Rattle.tree_ckpt.specs.declared.work.Onward.TheVariants as onward
@@ -43,19 +42,24 @@ use Rattle.tree_ckpt.specs.Way.{behind, BreaksFrom, from_root, BreaksWay}
 use Rattle.tree_ckpt.specs.Due.{Due, LeafDue, NodeDue, RootDue, IsSpent, HasNoPages, GetsLeaf, IsUp, IsDue, IsCutShort, Spends}
 use Rattle.tree_ckpt.specs.Demands.{Refuses, BreaksRoot, BreaksRecord, BreaksNode, BreaksLeaf, Demands}
 use Rattle.tree_ckpt.specs.Stepped.{Owes}
-use Rattle.tree_ckpt.proofs.Words.{Trouble, Lock, ObjName, QueueName, PuItem, Answer, Message, CkptAnswer, Turn, More, Ended, Stopped, Claim, Next, Goes, Ends, Stops, Took, Deed, calls_of, given_of, got_of, received_of, done_of, Fits, Ask, PagePut, Intake, Leases, Chart, KeptNode, Link, Descent, Fork, Folding, Left, PagePlan, Rising, Held, Work}
+use Rattle.tree_ckpt.proofs.Words.{Trouble, Lock, ObjName, QueueName, PuItem, Answer, Message, CkptAnswer, Turn, More, Ended, Stopped, Claim, Next, Goes, Ends, Stops, Took, Deed, calls_of, given_of, got_of, received_of, done_of, Fits, Ask, PagePut, Intake, Leases, Chart, KeptNode, Link, Descent, Fork, Folding, Left, Rising, Held, Work}
+use Rattle.tree_ckpt.specs.Working.{HoldsLeaf}
 use Rattle.tree_ckpt.proofs.Causes.{KnowsAt}
+use Rattle.tree_ckpt.proofs.LeafOutcomes.{Reads, Works, came_to, works}
+use Rattle.tree_ckpt.proofs.LeafOutcomes as leaf
+use Rattle.tree_ckpt.proofs.WayOutcomes.{Gets, gets}
+use Rattle.tree_ckpt.proofs.WayOutcomes as way
+use Rattle.tree_ckpt.proofs.RiseOutcomes.{Rises, rises}
+use Rattle.tree_ckpt.proofs.RiseOutcomes as climb
 use Rattle.tree_ckpt.proofs.Spent.{leaf_plan_spent, leaf_plan_full, node_plan_spent, node_plan_full, last_plan_spent, last_plan_full}
 use Rattle.tree_ckpt.proofs.Walking.{page_same, damage_same, fence_same, fork_none, fork_some, fork_level, fork_fence, fork_promised, behind_keeps, way_stops}
 use Rattle.tree_ckpt.proofs.Lows.{root_upto}
 
-abbrev Rise : Type 0
-Rise = Next Rising (Unit {0})
-
-abbrev IsStop : Trouble → Rise → Type 0
-IsStop t (Goes r) = ⊥
-IsStop t (Ends r x) = ⊥
-IsStop t (Stops r u) = u ≡ t
+-- it stops for this trouble
+abbrev IsStop : {M A : Type 0} → Trouble → Next M A → Type 0
+IsStop t (Goes m) = ⊥
+IsStop t (Ends m x) = ⊥
+IsStop t (Stops m u) = u ≡ t
 
 -- the trouble is kept or answered
 abbrev NextOwes : Step → Trouble → Type 0
@@ -68,6 +72,22 @@ owes_by t next built e h = subst (λ (x : Step). NextOwes x t) (sym e) h
 
 owes_same : (t u : Trouble) (next : Step) → t ≡ u → NextOwes next t → NextOwes next u
 owes_same t u next e h = subst (NextOwes next) e h
+
+-- so a step stops or keeps it
+leaf_owes : (h : Held) (t : Trouble) (next : Next Folding Left) → IsStop t next → NextOwes (folding_on h next) t
+leaf_owes h t (Goes f) s = absurd s
+leaf_owes h t (Ends f out) s = absurd s
+leaf_owes h t (Stops f u) s = ap Some s
+
+down_owes : (h : Held) (t : Trouble) (next : Next Descent (Unit {0})) → IsStop t next → NextOwes (descending_on h next) t
+down_owes h t (Goes d) s = absurd s
+down_owes h t (Ends d x) s = absurd s
+down_owes h t (Stops d u) s = ap Some s
+
+up_owes : (h : Held) (t : Trouble) (next : Next Rising (Unit {0})) → IsStop t next → NextOwes (rising_on h next) t
+up_owes h t (Goes r) s = absurd s
+up_owes h t (Ends r x) s = absurd s
+up_owes h t (Stops r u) s = ap Some s
 
 -- ---- calls that were refused
 
@@ -113,14 +133,19 @@ receive_refused : (queue : QueueName) (a : Answer) (t : Trouble) → Refuses (Re
 receive_refused queue a t k = refused_view received_of (Receive queue 256) a t refl (λ end now. refl) (λ lk until asks. absurd (cc (asks))) k
 
 -- the leaf's work stops for such an answer, whatever its call is
-folding_refused : (h : Held) (f : Folding) (a : Answer) (t : Trouble) (b : Bool) → Refuses (folding_ask f h.lease) a t
-    → NextOwes (folding_on h (cond b (leaf_got f (got_of a)) (leaf_put f (done_of a)))) t
-folding_refused h f a t true k =
-    let e : got_of a ≡ Err t = refused_view got_of (folding_ask f h.lease) a t refl (λ end now. refl) (λ lk until asks. absurd (no_folding_takes f h.lease lk asks)) k in
-    subst (λ (g : Result (Option (List ℕ)) Trouble). NextOwes (folding_on h (leaf_got f g)) t) (sym e) refl
-folding_refused h f a t false k =
-    let e : done_of a ≡ Err t = refused_view done_of (folding_ask f h.lease) a t refl (λ end now. refl) (λ lk until asks. absurd (no_folding_takes f h.lease lk asks)) k in
-    subst (λ (d : Result (Unit {0}) Trouble). NextOwes (folding_on h (leaf_put f d)) t) (sym e) refl
+got_nothing : {f : Folding} {t : Trouble} {next : FoldingStep} → Reads f (Err t) next → IsStop t next
+got_nothing (leaf.refused t) = refl
+
+put_nothing : {f : Folding} {t : Trouble} {next : FoldingStep} → leaf.Lands f (Err t) next → IsStop t next
+put_nothing (leaf.not_put t) = refl
+
+folding_refused : {f : Folding} {a : Answer} {next : FoldingStep} (t : Trouble) (l : Claim) → Refuses (folding_ask f l) a t → Works f a next → IsStop t next
+folding_refused {f = f} {a = a} {next = next} t l k (leaf.gets nothing r) =
+    let e : got_of a ≡ Err t = refused_view got_of (folding_ask f l) a t refl (λ end now. refl) (λ lk until asks. absurd (no_folding_takes f l lk asks)) k in
+    got_nothing (subst (λ (g : Result (Option (List ℕ)) Trouble). Reads f g next) e r)
+folding_refused {f = f} {a = a} {next = next} t l k (leaf.puts some w) =
+    let e : done_of a ≡ Err t = refused_view done_of (folding_ask f l) a t refl (λ end now. refl) (λ lk until asks. absurd (no_folding_takes f l lk asks)) k in
+    put_nothing (subst (λ (d : Result (Unit {0}) Trouble). leaf.Lands f d next) e w)
 
 rising_refused : (h : Held) (r : Rising) (a : Answer) (t : Trouble) → Refuses (rising_ask r h.lease) a t → done_of a ≡ Err t
 rising_refused h r a t k = refused_view done_of (rising_ask r h.lease) a t refl (λ end now. refl) (λ lk until asks. absurd (no_rising_takes r h.lease lk asks)) k
@@ -150,7 +175,7 @@ refused_owes tree (work.Descending h d) a next t own fits e k =
     owes_by t next _ (e ∙ ap (λ (g : Result (Option (List ℕ)) Trouble). descending_on h (descent_got d g)) (get_refused (object.Page d.chart.tree d.page) h.lease a t k)) refl
 refused_owes tree (work.TakingPage h c) a next t own fits e k =
     owes_by t next _ (e ∙ ap (page_taken h c) (take_refused (lock.Page c.chart.tree c.page) 30 a t k)) refl
-refused_owes tree (work.Folding h f) a next t own fits e k = owes_by t next _ e (folding_refused h f a t (has_nothing f.placing) k)
+refused_owes tree (work.Folding h f) a next t own fits e k = owes_by t next _ e (leaf_owes h t (folding_next f a) (folding_refused {f = f} t h.lease k (works f a)))
 refused_owes tree (work.ReleasingPage h l o) a next t own fits e k = absurd (release_goes tree (Some l) a t tt fits k)
 refused_owes tree (work.Rising h r) a next t own fits e k =
     owes_by t next _ (e ∙ ap (λ (d : Result (Unit {0}) Trouble). rising_on h (rising.risen_by r d)) (rising_refused h r a t k)) refl
@@ -193,11 +218,14 @@ record_owes tree w a next t leads k = absurd k
 node_stops : (h : Held) (d : Descent) (bytes : List ℕ) (t : Trouble) → fork_of d bytes ≡ Err t → NextOwes (descending_on h (descent_got d (Ok (Some bytes)))) t
 node_stops h d bytes t e = subst (λ (x : Result Fork Trouble). NextOwes (descending_on h (got_node d bytes x)) t) (sym e) refl
 
-absent_first : (d : Descent) → d.page ≡ 1 → absent_node d ≡ damaged d.chart.tree d.page 0
-absent_first d e = ap (λ (b : Bool). cond b (damaged d.chart.tree d.page 0) (trouble.Absent d.page)) (eq-eqb d.page 1 e)
+-- a page that is not there: page 1, or another one
+no_page_one : {d : Descent} {next : Next Descent (Unit {0})} → d.page ≡ 1 → Gets d (Ok None) next → IsStop (damaged d.chart.tree d.page 0) next
+no_page_one first (way.no_root e) = refl
+no_page_one first (way.absent other) = absurd (other first)
 
-absent_other : (d : Descent) → d.page ≢ 1 → absent_node d ≡ trouble.Absent d.page
-absent_other d e = ap (λ (b : Bool). cond b (damaged d.chart.tree d.page 0) (trouble.Absent d.page)) (ne_eqb d.page 1 e)
+no_other_page : {d : Descent} {next : Next Descent (Unit {0})} → d.page ≢ 1 → Gets d (Ok None) next → IsStop (trouble.Absent d.page) next
+no_other_page other (way.no_root first) = absurd (other first)
+no_other_page other (way.absent e) = refl
 
 -- the step from what a get of a node brought
 abbrev node_step : Held → Descent → Answer → Step
@@ -209,10 +237,12 @@ node_by h d a b t e k = subst (λ (x : Answer). NextOwes (node_step h d x) t) (s
 node_owes : (tree : ℕ) (h : Held) (d : Descent) (a : Answer) (t : Trouble) → d.chart.tree ≡ tree → BreaksNode tree d a t → NextOwes (node_step h d a) t
 node_owes tree h d a (trouble.Absent page) same (here, other, e) =
     node_by h d a (call.Got None) (trouble.Absent page) e
-    (ap Some (absent_other d (subst (λ (x : ℕ). x ≢ 1) here other) ∙ ap trouble.Absent (sym here)))
+    (subst (NextOwes (node_step h d (call.Got None))) (ap trouble.Absent (sym here))
+    (down_owes h (trouble.Absent d.page) (descent_got d (Ok None)) (no_other_page (subst (λ (x : ℕ). x ≢ 1) here other) (gets d (Ok None)))))
 node_owes tree h d a (trouble.Damaged where_it_is at) same (here, inl (inl (first, there, e))) =
     node_by h d a (call.Got None) (trouble.Damaged where_it_is at) e
-    (ap Some (absent_first d first ∙ page_same tree d.chart.tree d.page at 0 where_it_is same here there))
+    (subst (NextOwes (node_step h d (call.Got None))) (page_same tree d.chart.tree d.page at 0 where_it_is same here there)
+    (down_owes h (damaged d.chart.tree d.page 0) (descent_got d (Ok None)) (no_page_one first (gets d (Ok None)))))
 node_owes tree h d a (trouble.Damaged where_it_is at) same (here, inl (inr (bytes, e, none, there))) =
     node_by h d a (call.Got (Some bytes)) (trouble.Damaged where_it_is at) e
     (node_stops h d bytes (trouble.Damaged where_it_is at)
@@ -229,80 +259,120 @@ node_owes tree h d a t same k = absurd k
 
 -- ---- leaves
 
-abbrev leaf_step : Held → Folding → Answer → Step
-leaf_step h f a = folding_on h (leaf_got f (got_of a))
+-- one leaf is got
+gets_held : (page : ℕ) (a : Answer) (l : Leaf) → GetsLeaf page a l → (got : Option (List ℕ)) × (a ≡ call.Got got) × HoldsLeaf page l got
+gets_held page a l (inl (bytes, e, read)) = (Some bytes, e, read)
+gets_held page a l (inr (first, e, is)) = (None, e, (first, is))
 
-leaf_by : (h : Held) (f : Folding) (a b : Answer) (t : Trouble) → a ≡ b → NextOwes (leaf_step h f b) t → NextOwes (leaf_step h f a) t
-leaf_by h f a b t e k = subst (λ (x : Answer). NextOwes (leaf_step h f x) t) (sym e) k
+held_same : (page : ℕ) (l m : Leaf) (got : Option (List ℕ)) → HoldsLeaf page l got → HoldsLeaf page m got → l ≡ m
+held_same page l m (Some bytes) one two = let same : Ok l ≡ Ok m = sym one ∙ two in cc (same)
+held_same page l m None one two = one.1 ∙ sym two.1
 
--- a page that is not there
-abbrev absent_leaf_by : Folding → Bool → Next Folding Left
-absent_leaf_by f b = cond b (leaf_at f empty_leaf) (Stops f (trouble.Absent f.page))
+-- what is known of it is known of the leaf that a case speaks of
+of_held : (P : Leaf → Type 0) (f : Folding) (got : Option (List ℕ)) (l m : Leaf) → HoldsLeaf f.page l got → P l → HoldsLeaf f.page m got → P m
+of_held P f got l m holds k there = subst P (held_same f.page l m got holds there) k
 
-leaf_fence : (h : Held) (f : Folding) (l : Leaf) (t : Trouble) → bytes_same l.low f.low ≡ false → bad_low f l.low ≡ t → NextOwes (folding_on h (leaf_at f l)) t
-leaf_fence h f l t fence is =
-    subst (λ (b : Bool). NextOwes (folding_on h (cond b (leaf_side f l l.high (page_at l.right)) (Stops f (bad_low f l.low)))) t) (sym fence) (ap Some is)
+-- page 1 is never absent
+page_one : (f : Folding) (l : Leaf) → HoldsLeaf f.page l None → (f.page == 1) ≡ false → ⊥
+page_one f l holds other = let first = eq-eqb f.page 1 holds.0 in cc (first, other)
 
-leaf_wrong : (h : Held) (f : Folding) (bytes : List ℕ) (left : ℕ) (t : Trouble) → whole leaf bytes ≡ Err left
-    → damaged f.chart.tree f.page (offset leaf bytes) ≡ t → NextOwes (leaf_step h f (call.Got (Some bytes))) t
-leaf_wrong h f bytes left t e is =
-    subst (λ (r : Result Leaf ℕ). NextOwes (folding_on h (leaf_found f (leaf_or f.chart.tree f.page (offset leaf bytes) r))) t) (sym e) (ap Some is)
+no_leaf : {X : Type 0} (bytes : List ℕ) (left : ℕ) (l : Leaf) → whole leaf_format bytes ≡ Err left → whole leaf_format bytes ≡ Ok l → X
+no_leaf bytes left l wrong right = absurd (cc (wrong, right))
 
-leaf_right : (h : Held) (f : Folding) (bytes : List ℕ) (l : Leaf) (t : Trouble) → whole leaf bytes ≡ Ok l → NextOwes (folding_on h (leaf_at f l)) t
-    → NextOwes (leaf_step h f (call.Got (Some bytes))) t
-leaf_right h f bytes l t e k =
-    subst (λ (r : Result Leaf ℕ). NextOwes (folding_on h (leaf_found f (leaf_or f.chart.tree f.page (offset leaf bytes) r))) t) (sym e) k
+-- no leaf is got
+abbrev missing : Folding → Option (List ℕ) → Trouble
+missing f (Some bytes) = damaged f.chart.tree f.page (offset leaf_format bytes)
+missing f None = trouble.Absent f.page
 
-got_leaf_owes : (h : Held) (f : Folding) (a : Answer) (l : Leaf) (t : Trouble) → GetsLeaf f.page a l → NextOwes (folding_on h (leaf_at f l)) t
-    → NextOwes (leaf_step h f a) t
-got_leaf_owes h f a l t (inl (bytes, e, read)) k = leaf_by h f a (call.Got (Some bytes)) t e (leaf_right h f bytes l t read k)
-got_leaf_owes h f a l t (inr (first, e, is)) k =
-    leaf_by h f a (call.Got None) t e
-    (subst (λ (b : Bool). NextOwes (folding_on h (absent_leaf_by f b)) t) (sym (eq-eqb f.page 1 first))
-    (subst (λ (x : Leaf). NextOwes (folding_on h (leaf_at f x)) t) is k))
+missing_stops : {f : Folding} (got : Option (List ℕ)) {next : FoldingStep} → ((l : Leaf) → HoldsLeaf f.page l got → ⊥) → Reads f (Ok got) next → IsStop (missing f got) next
+missing_stops got never (leaf.absent e) = refl
+missing_stops got never (leaf.wrong bytes left e) = refl
+missing_stops got never (leaf.misled same l holds low) = absurd (never l holds)
+missing_stops got never (leaf.loops same l high right behind seen) = absurd (never l behind.holds)
+missing_stops got never (leaf.passes same l high right behind new) = absurd (never l behind.holds)
+missing_stops got never (leaf.spares same l here none) = absurd (never l here.holds)
+missing_stops got never (leaf.plans same l x xs p here some e) = absurd (never l here.holds)
+missing_stops got never (leaf.unplanned same l x xs t here some e) = absurd (never l here.holds)
+
+-- its low key is another one than the link promised
+misled_stops : {f : Folding} {next : FoldingStep} (got : Option (List ℕ)) (l : Leaf) → HoldsLeaf f.page l got → bytes_same l.low f.low ≡ false → Reads f (Ok got) next
+    → IsStop (bad_low f l.low) next
+misled_stops {f = f} got l holds low r = on got holds r where
+  never : {X : Type 0} (o : Option (List ℕ)) (m : Leaf) → HoldsLeaf f.page l o → HoldsLeaf f.page m o → bytes_same m.low f.low ≡ true → X
+  never o m here there same = absurd (let other = of_held (λ (x : Leaf). bytes_same x.low f.low ≡ false) f o l m here low there in cc (same, other))
+
+  on : {x : FoldingStep} (o : Option (List ℕ)) → HoldsLeaf f.page l o → Reads f (Ok o) x → IsStop (bad_low f l.low) x
+  on o here (leaf.absent other) = absurd (page_one f l here other)
+  on o here (leaf.wrong bytes left e) = no_leaf bytes left l e here
+  on o here (leaf.misled got m there e) = ap (λ (x : Leaf). bad_low f x.low) (held_same f.page m l o there here)
+  on o here (leaf.loops got m high right behind seen) = never o m here behind.holds behind.promised
+  on o here (leaf.passes got m high right behind new) = never o m here behind.holds behind.promised
+  on o here (leaf.spares got m at none) = never o m here at.holds at.promised
+  on o here (leaf.plans got m x xs p at some e) = never o m here at.holds at.promised
+  on o here (leaf.unplanned got m x xs t at some e) = never o m here at.holds at.promised
 
 -- a right link leads to a page that the way came to before
-leaf_loops : (h : Held) (f : Folding) (l : Leaf) (high : List ℕ) (page : ℕ) → bytes_same l.low f.low ≡ true → GoesRight l.high (page_at l.right) high page
-    → bytes_below f.chart.key high ≡ false → (page ≡ f.page) ⊎ (is_seen f.visited page ≡ true) → NextOwes (folding_on h (leaf_at f l)) (trouble.Loop page)
-leaf_loops h f l high page promised right beyond seen =
-    subst (λ (x : Next Folding Left). NextOwes (folding_on h x) (trouble.Loop page)) (sym there) refl where
-      at_by : Bool → Next Folding Left
-      at_by b = cond b (leaf_side f l l.high (page_at l.right)) (Stops f (bad_low f l.low))
+record IsRound (f : Folding) (page : ℕ) (l : Leaf) : Type 0 where
+  promised : bytes_same l.low f.low ≡ true
+  high : List ℕ
+  right : GoesRight l.high (page_at l.right) high page
+  beyond : bytes_below f.chart.key high ≡ false
+  came : came_to f page ≡ true
 
-      right_by : Bool → Next Folding Left
-      right_by b = cond b (handle f l) (to_right f high page)
+round_here : {X : Type 0} (f : Folding) (page : ℕ) (l : Leaf) → IsRound f page l → below_bound f.chart.key l.high ≡ true → X
+round_here f page l k below = absurd (let above = ap (below_bound f.chart.key) k.right.0 ∙ k.beyond in cc (below, above))
 
-      loop_by : Bool → Next Folding Left
-      loop_by b = cond b (Stops f (trouble.Loop page)) (Ends (turned f high page) (Right high page))
+round_page : (f : Folding) (page other : ℕ) (l : Leaf) → IsRound f page l → page_at l.right ≡ Some other → other ≡ page
+round_page f page other l k e = let same : Some other ≡ Some page = sym e ∙ k.right.1 in cc (same)
 
-      came : (page ≡ f.page) ⊎ (is_seen f.visited page ≡ true) → ((page == f.page) || is_seen f.visited page) ≡ true
-      came (inl e) = ap (λ (b : Bool). b || is_seen f.visited page) (eq-eqb page f.page e)
-      came (inr e) = ap (λ (b : Bool). (page == f.page) || b) e ∙ either (page == f.page) where
-        either : (b : Bool) → (b || true) ≡ true
-        either true = refl
-        either false = refl
+round_stops : {f : Folding} {next : FoldingStep} (page : ℕ) (got : Option (List ℕ)) (l : Leaf) → HoldsLeaf f.page l got → IsRound f page l → Reads f (Ok got) next
+    → IsStop (trouble.Loop page) next
+round_stops {f = f} page got l holds k r = on got holds r where
+  same : (o : Option (List ℕ)) (m : Leaf) → HoldsLeaf f.page l o → HoldsLeaf f.page m o → IsRound f page m
+  same o m here there = of_held (IsRound f page) f o l m here k there
 
-      there : leaf_at f l ≡ Stops f (trouble.Loop page)
-      there =
-          ap (λ (b : Bool). at_by b) promised
-          ∙ (ap (λ (o : Option (List ℕ)). leaf_side f l o (page_at l.right)) right.0
-          ∙ (ap (leaf_side f l (Some high)) right.1 ∙ (ap (λ (b : Bool). right_by b) beyond ∙ ap (λ (b : Bool). loop_by b) (came seen))))
+  on : {x : FoldingStep} (o : Option (List ℕ)) → HoldsLeaf f.page l o → Reads f (Ok o) x → IsStop (trouble.Loop page) x
+  on o here (leaf.absent other) = absurd (page_one f l here other)
+  on o here (leaf.wrong bytes left e) = no_leaf bytes left l e here
+  on o here (leaf.misled got m there e) = absurd (let is = (same o m here there).promised in cc (is, e))
+  on o here (leaf.loops got m high right behind seen) = ap trouble.Loop (round_page f page right m (same o m here behind.holds) behind.goes.1)
+  on o here (leaf.passes got m high right behind new) =
+      absurd (let came = ap (came_to f) (round_page f page right m (same o m here behind.holds) behind.goes.1) ∙ k.came in cc (came, new))
+  on o here (leaf.spares got m at none) = round_here f page m (same o m here at.holds) at.below
+  on o here (leaf.plans got m x xs p at some e) = round_here f page m (same o m here at.holds) at.below
+  on o here (leaf.unplanned got m x xs t at some e) = round_here f page m (same o m here at.holds) at.below
 
-leaf_owes : (tree : ℕ) (h : Held) (f : Folding) (a : Answer) (t : Trouble) → f.chart.tree ≡ tree → BreaksLeaf tree f a t → NextOwes (leaf_step h f a) t
-leaf_owes tree h f a (trouble.Absent page) same (here, other, e) =
-    leaf_by h f a (call.Got None) (trouble.Absent page) e
-    (subst (λ (b : Bool). NextOwes (folding_on h (absent_leaf_by f b)) (trouble.Absent page)) (sym (ne_eqb f.page 1 (subst (λ (x : ℕ). x ≢ 1) here other)))
-    (ap Some (ap trouble.Absent (sym here))))
-leaf_owes tree h f a (trouble.Damaged where_it_is at) same (here, (bytes, (left, e, wrong, there))) =
-    leaf_by h f a (call.Got (Some bytes)) (trouble.Damaged where_it_is at) e
-    (leaf_wrong h f bytes left (trouble.Damaged where_it_is at) wrong
-    (page_same tree f.chart.tree f.page at (offset leaf bytes) where_it_is same here there))
-leaf_owes tree h f a (trouble.BadFence page expected found) same (here, low, (l, gets, is, fence)) =
-    got_leaf_owes h f a l (trouble.BadFence page expected found) gets
-    (leaf_fence h f l (trouble.BadFence page expected found) fence (fence_same f.page page f.low expected l.low found here low is))
-leaf_owes tree h f a (trouble.Loop page) same (l, high, gets, promised, right, beyond, seen) =
-    got_leaf_owes h f a l (trouble.Loop page) gets (leaf_loops h f l high page promised right beyond seen)
-leaf_owes tree h f a t same k = absurd k
+came_before : (f : Folding) (page : ℕ) → (page ≡ f.page) ⊎ (is_seen f.visited page ≡ true) → came_to f page ≡ true
+came_before f page (inl e) = ap (λ (b : Bool). b || is_seen f.visited page) (eq-eqb page f.page e)
+came_before f page (inr e) = ap (λ (b : Bool). (page == f.page) || b) e ∙ either (page == f.page) where
+  either : (b : Bool) → (b || true) ≡ true
+  either true = refl
+  either false = refl
+
+-- behind the get of a leaf
+got_stops : {f : Folding} {a : Answer} {next : FoldingStep} (t : Trouble) (got : Option (List ℕ)) → a ≡ call.Got got → has_nothing f.placing ≡ true
+    → (Reads f (Ok got) next → IsStop t next) → Works f a next → IsStop t next
+got_stops {f = f} {next = next} t got e nothing stops (leaf.gets same r) = stops (subst (λ (x : Answer). Reads f (got_of x) next) e r)
+got_stops t got e nothing stops (leaf.puts some l) = absurd (cc (nothing, some))
+
+leaf_breaks : {f : Folding} {a : Answer} {next : FoldingStep} (tree : ℕ) (t : Trouble) → f.chart.tree ≡ tree → has_nothing f.placing ≡ true → BreaksLeaf tree f a t → Works f a next
+    → IsStop t next
+leaf_breaks {f = f} {next = next} tree (trouble.Absent page) same nothing (here, other, e) w =
+    got_stops {f = f} (trouble.Absent page) None e nothing
+    (λ r. subst (λ (p : ℕ). IsStop (trouble.Absent p) next) (sym here) (missing_stops {f = f} None (λ l holds. absurd ((subst (λ (x : ℕ). x ≢ 1) here other) holds.0)) r)) w
+leaf_breaks {f = f} {next = next} tree (trouble.Damaged where_it_is at) same nothing (here, (bytes, (left, e, wrong, there))) w =
+    got_stops {f = f} (trouble.Damaged where_it_is at) (Some bytes) e nothing
+    (λ r. subst (λ (t : Trouble). IsStop t next) (page_same tree f.chart.tree f.page at (offset leaf_format bytes) where_it_is same here there)
+    (missing_stops {f = f} (Some bytes) (λ l. no_leaf bytes left l wrong) r)) w
+leaf_breaks {f = f} {a = a} {next = next} tree (trouble.BadFence page expected found) same nothing (here, low, (l, gets, is, fence)) w =
+    let at = gets_held f.page a l gets in
+    got_stops {f = f} (trouble.BadFence page expected found) at.0 at.1 nothing
+    (λ r. subst (λ (t : Trouble). IsStop t next) (fence_same f.page page f.low expected l.low found here low is) (misled_stops at.0 l at.2 fence r)) w
+leaf_breaks {f = f} {a = a} tree (trouble.Loop page) same nothing (l, high, gets, promised, right, beyond, seen) w =
+    let at = gets_held f.page a l gets in
+    got_stops {f = f} (trouble.Loop page) at.0 at.1 nothing
+    (round_stops {f = f} page at.0 l at.2 (record { promised = promised; high = high; right = right; beyond = beyond; came = came_before f page seen })) w
+leaf_breaks tree t same nothing k w = absurd k
 
 -- ---- the way over nodes that were got before
 
@@ -331,44 +401,68 @@ way_owes tree w cs a next t knows leads (d, inr b, breaks) =
 -- ---- what is spent
 
 -- a leaf that is to be put and cannot be planned
-leaf_unplanned : (h : Held) (f : Folding) (l : Leaf) (t : Trouble) → bytes_same l.low f.low ≡ true → below_bound f.chart.key l.high ≡ true
-    → has_items (lacked l 0 f.chart.run.items) ≡ true → leaf_plan (tree_held f.chart.root) f.page l f.chart.run.items ≡ Err t → NextOwes (folding_on h (leaf_at f l)) t
-leaf_unplanned h f l t promised stays lacks e =
-    subst (λ (b : Bool). NextOwes (folding_on h (cond b (leaf_side f l l.high (page_at l.right)) (Stops f (bad_low f l.low)))) t) (sym promised)
-    (side l.high (page_at l.right) stays) where
-      item : (items : List PuItem) → has_items items ≡ true → NextOwes (folding_on h (handled_by f l items)) t
-      item [] some = absurd (cc (some))
-      item (x ∷ xs) some = subst (λ (p : Result PagePlan Trouble). NextOwes (folding_on h (planned f l.high (x ∷ xs) p)) t) (sym e) refl
+record IsUnplanned (f : Folding) (t : Trouble) (l : Leaf) : Type 0 where
+  promised : bytes_same l.low f.low ≡ true
+  stays : below_bound f.chart.key l.high ≡ true
+  lacks : has_items (lacked l 0 f.chart.run.items) ≡ true
+  unplanned : leaf_plan (tree_held f.chart.root) f.page l f.chart.run.items ≡ Err t
 
-      side : (high : Option (List ℕ)) (right : Option ℕ) → below_bound f.chart.key high ≡ true → NextOwes (folding_on h (leaf_side f l high right)) t
-      side None right below = item (lacked l 0 f.chart.run.items) lacks
-      side (Some high) None below = item (lacked l 0 f.chart.run.items) lacks
-      side (Some high) (Some right) below =
-          subst (λ (b : Bool). NextOwes (folding_on h (cond b (handle f l) (to_right f high right))) t) (sym below) (item (lacked l 0 f.chart.run.items) lacks)
+unplanned_beyond : {X : Type 0} (f : Folding) (t : Trouble) (l : Leaf) (high : List ℕ) → IsUnplanned f t l → l.high ≡ Some high → bytes_below f.chart.key high ≡ false → X
+unplanned_beyond f t l high k is beyond = absurd (let above = ap (below_bound f.chart.key) is ∙ beyond in let below = k.stays in cc (below, above))
 
--- the way up stops
-up_stops : (h : Held) (up : Rising) (t : Trouble) (x : Rise) → rise_at up (next_touched up) (touched_node up) ≡ x → IsStop t x → NextOwes (rising_on h (rise up)) t
-up_stops h up t x e is = subst (λ (y : Rise). NextOwes (rising_on h y) t) (sym e) (on x is) where
-  on : (y : Rise) → IsStop t y → NextOwes (rising_on h y) t
-  on (Goes r) s = absurd s
-  on (Ends r u) s = absurd s
-  on (Stops r u) s = ap Some s
+unplanned_stops : {f : Folding} {next : FoldingStep} (t : Trouble) (got : Option (List ℕ)) (l : Leaf) → HoldsLeaf f.page l got → IsUnplanned f t l → Reads f (Ok got) next → IsStop t next
+unplanned_stops {f = f} t got l holds k r = on got holds r where
+  same : (o : Option (List ℕ)) (m : Leaf) → HoldsLeaf f.page l o → HoldsLeaf f.page m o → IsUnplanned f t m
+  same o m here there = of_held (IsUnplanned f t) f o l m here k there
 
-up_owes : (tree : ℕ) (w : Work) (a : Answer) (next : Step) (t : Trouble) (up : Rising) → Leads tree w a next → IsUp w a up → ((h : Held) → NextOwes (rising_on h (rise up)) t)
-    → NextOwes next t
-up_owes tree w a next t up leads (inl b) owes =
+  on : {x : FoldingStep} (o : Option (List ℕ)) → HoldsLeaf f.page l o → Reads f (Ok o) x → IsStop t x
+  on o here (leaf.absent other) = absurd (page_one f l here other)
+  on o here (leaf.wrong bytes left e) = no_leaf bytes left l e here
+  on o here (leaf.misled got m there e) = absurd (let is = (same o m here there).promised in cc (is, e))
+  on o here (leaf.loops got m high right behind seen) = unplanned_beyond f t m high (same o m here behind.holds) behind.goes.0 behind.beyond
+  on o here (leaf.passes got m high right behind new) = unplanned_beyond f t m high (same o m here behind.holds) behind.goes.0 behind.beyond
+  on o here (leaf.spares got m at none) = absurd (let some : false ≡ true = sym (ap has_items none) ∙ (same o m here at.holds).lacks in cc (some))
+  on o here (leaf.plans got m x xs p at some e) = absurd (let never = (same o m here at.holds).unplanned in cc (never, e))
+  on o here (leaf.unplanned got m x xs u at some e) = let both : Err u ≡ Err t = sym e ∙ (same o m here at.holds).unplanned in cc (both)
+
+-- the way up goes on from here
+up_goes : (tree : ℕ) (w : Work) (a : Answer) (next : Step) (t : Trouble) (up : Rising) → Leads tree w a next → IsUp w a up
+    → ((x : RisingStep) → Rises up x → IsStop t x) → NextOwes next t
+up_goes tree w a next t up leads (inl b) stops =
     let one : Leads tree (work.ReleasingPage b.held b.lease (onward.Handled b.chart)) a next = subst (λ (x : Work). Leads tree x a next) b.stands leads in
     owes_by t next _ one
     (subst (λ (key : Option (List ℕ)). NextOwes (going_by b.held b.chart key) t) (sym b.none)
-    (subst (λ (r : Rising). NextOwes (rising_on b.held (rise r)) t) b.is (owes b.held)))
-up_owes tree w a next t up leads (inr g) owes =
+    (up_owes b.held t (rise (rising.begun b.chart)) (subst (λ (r : Rising). IsStop t (rise r)) b.is (stops (rise up) (rises up)))))
+up_goes tree w a next t up leads (inr g) stops =
     let one : Leads tree (work.Rising g.held g.from) a next = subst (λ (x : Work). Leads tree x a next) g.stands leads in
     let two : Leads tree (work.Rising g.held g.from) call.Done next = subst (λ (x : Answer). Leads tree (work.Rising g.held g.from) x next) g.put one in
-    owes_by t next _ two
-    (subst (λ (b : Bool). NextOwes (rising_on g.held (cond b (Ends g.from tt) (after_put (landed g.from)))) t) (sym g.some)
-    (subst (λ (b : Bool). NextOwes (rising_on g.held (cond (not b || is_some g.from.last) (cond (b && g.from.is_spent) (Stops (landed g.from) version_spent) (Goes (landed g.from))) (rise (landed g.from)))) t) (sym g.nothing)
-    (subst (λ (o : Option (List ℕ)). NextOwes (rising_on g.held (cond (is_some o) (cond g.from.is_spent (Stops (landed g.from) version_spent) (Goes (landed g.from))) (rise (landed g.from)))) t) (sym g.between)
-    (subst (λ (r : Rising). NextOwes (rising_on g.held (rise r)) t) g.is (owes g.held)))))
+    owes_by t next _ two (up_owes g.held t (rising.put_landed g.from) (on (climb.lands g.from (Ok tt)))) where
+      on : {x : RisingStep} → climb.Lands g.from (Ok tt) x → IsStop t x
+      on (climb.is_last y none) = absurd (let some = g.some in cc (none, some))
+      on (climb.more y some more) =
+          absurd (let never : false ≡ true = sym (ap (λ (b : Bool). not b || (is_some g.from.last && not g.from.is_spent)) g.nothing
+          ∙ ap (λ (o : Option (List ℕ)). is_some o && not g.from.is_spent) g.between) ∙ more in cc (never))
+      on (climb.cut_short y some none last spent) = absurd (let none : is_some g.from.last ≡ false = ap (λ (o : Option (List ℕ)). is_some o) g.between in cc (last, none))
+      on {x = x} (climb.goes_on y some none between goes) = stops x (subst (λ (r : Rising). Rises r x) (sym g.is) goes)
+
+node_unplanned : {up : Rising} {x : RisingStep} (t : Trouble) (k : KeptNode) → touched_node up ≡ Some k → node_plan (tree_held up.chart.root) up.chart.tree k up.chart.links ≡ Err t
+    → Rises up x → IsStop t x
+node_unplanned {up = up} t k next planned (climb.node_due m p at e) =
+    let both : Some m ≡ Some k = sym at ∙ next in
+    let same : m ≡ k = cc (both) in
+    absurd (let ok = subst (λ (n : KeptNode). node_plan (tree_held up.chart.root) up.chart.tree n up.chart.links ≡ Ok p) same e in cc (ok, planned))
+node_unplanned {up = up} t k next planned (climb.no_node m u at e) =
+    let both : Some m ≡ Some k = sym at ∙ next in
+    let same : m ≡ k = cc (both) in
+    let is : Err u ≡ Err t = sym (subst (λ (n : KeptNode). node_plan (tree_held up.chart.root) up.chart.tree n up.chart.links ≡ Err u) same e) ∙ planned in cc (is)
+node_unplanned t k next planned (climb.root_due p none e) = absurd (cc (next, none))
+node_unplanned t k next planned (climb.no_root u none e) = absurd (cc (next, none))
+
+root_unplanned : {up : Rising} {x : RisingStep} (t : Trouble) → touched_node up ≡ None → last_plan up ≡ Err t → Rises up x → IsStop t x
+root_unplanned t none planned (climb.node_due k p at e) = absurd (cc (none, at))
+root_unplanned t none planned (climb.no_node k u at e) = absurd (cc (none, at))
+root_unplanned t none planned (climb.root_due p same e) = absurd (cc (planned, e))
+root_unplanned t none planned (climb.no_root u same e) = let is : Err u ≡ Err t = sym e ∙ planned in cc (is)
 
 -- what is due cannot be planned
 DueStops : Due → Trouble → Type 0
@@ -382,17 +476,16 @@ due_owes tree w a next t leads (LeafDue root l run) is stops =
     let one : Leads tree (work.Folding is.held is.from) a next = subst (λ (x : Work). Leads tree x a next) is.stands leads in
     let planned : leaf_plan (tree_held is.from.chart.root) is.from.page l is.from.chart.run.items ≡ Err t =
     sym (ap (λ (r : Tree). leaf_plan r is.from.page l run) is.root_is ∙ ap (leaf_plan (tree_held is.from.chart.root) is.from.page l) is.run_is) ∙ stops is.from.page in
-    owes_by t next _ one
-    (subst (λ (b : Bool). NextOwes (folding_on is.held (cond b (leaf_got is.from (got_of a)) (leaf_put is.from (done_of a)))) t) (sym is.nothing)
-    (got_leaf_owes is.held is.from a l t is.gets (leaf_unplanned is.held is.from l t is.promised is.stays is.lacks planned)))
+    let at = gets_held is.from.page a l is.gets in
+    owes_by t next _ one (leaf_owes is.held t (folding_next is.from a)
+    (got_stops {f = is.from} t at.0 at.1 is.nothing
+    (unplanned_stops {f = is.from} t at.0 l at.2 (record { promised = is.promised; stays = is.stays; lacks = is.lacks; unplanned = planned })) (works is.from a)))
 due_owes tree w a next t leads (NodeDue root n links) is stops =
     let up : Rising = is.up in
     let planned : node_plan (tree_held up.chart.root) up.chart.tree is.kept up.chart.links ≡ Err t =
     sym (ap (λ (r : Tree). node_plan r up.chart.tree is.kept links) is.root_is ∙ ap (node_plan (tree_held up.chart.root) up.chart.tree is.kept) is.links_are)
     ∙ stops up.chart.tree is.kept is.reads in
-    up_owes tree w a next t up leads is.is_up
-    (λ h. up_stops h up t (Stops up t)
-    (ap (rise_at up (next_touched up)) is.next ∙ ap (put_node up (next_touched up + 1) (is.kept.level + 1)) planned) refl)
+    up_goes tree w a next t up leads is.is_up (λ x. node_unplanned {up = up} t is.kept is.next planned)
 due_owes tree w a next t leads (RootDue root links top) is stops =
     let up : Rising = is.up in
     let stood : Tree = tree_held up.chart.root in
@@ -400,8 +493,7 @@ due_owes tree w a next t leads (RootDue root links top) is stops =
     sym (ap (λ (r : Tree). plan_of r (risen_by r.level links top (next_tree r))) is.root_is
     ∙ (ap (λ (ls : List Link). plan_of stood (risen_by stood.level ls top (next_tree stood))) is.links_are
     ∙ ap (λ (x : List (ℕ × ℕ)). plan_of stood (risen_by stood.level up.chart.links x (next_tree stood))) is.top_is)) ∙ stops in
-    up_owes tree w a next t up leads is.is_up
-    (λ h. up_stops h up t (Stops up t) (ap (rise_at up (next_touched up)) is.none ∙ ap (put_root up) planned) refl)
+    up_goes tree w a next t up leads is.is_up (λ x. root_unplanned {up = up} t is.none planned)
 
 spent_stops : (due : Due) → IsSpent due → DueStops due version_spent
 unfolding DueStops
@@ -420,11 +512,14 @@ short_owes : (tree : ℕ) (w : Work) (a : Answer) (next : Step) → Leads tree w
 short_owes tree w a next leads is =
     let one : Leads tree (work.Rising is.held is.from) a next = subst (λ (x : Work). Leads tree x a next) is.stands leads in
     let two : Leads tree (work.Rising is.held is.from) call.Done next = subst (λ (x : Answer). Leads tree (work.Rising is.held is.from) x next) is.put one in
-    owes_by version_spent next _ two
-    (subst (λ (b : Bool). NextOwes (rising_on is.held (cond b (Ends is.from tt) (after_put (landed is.from)))) version_spent) (sym is.some)
-    (subst (λ (b : Bool). NextOwes (rising_on is.held (cond (not b || is_some is.from.last) (cond (b && is.from.is_spent) (Stops (landed is.from) version_spent) (Goes (landed is.from))) (rise (landed is.from)))) version_spent) (sym is.nothing)
-    (subst (λ (b : Bool). NextOwes (rising_on is.held (cond b (cond is.from.is_spent (Stops (landed is.from) version_spent) (Goes (landed is.from))) (rise (landed is.from)))) version_spent) (sym is.behind)
-    (subst (λ (b : Bool). NextOwes (rising_on is.held (cond b (Stops (landed is.from) version_spent) (Goes (landed is.from)))) version_spent) (sym is.spent) refl))))
+    owes_by version_spent next _ two (up_owes is.held version_spent (rising.put_landed is.from) (on (climb.lands is.from (Ok tt)))) where
+      on : {x : RisingStep} → climb.Lands is.from (Ok tt) x → IsStop version_spent x
+      on (climb.is_last y none) = absurd (let some = is.some in cc (none, some))
+      on (climb.more y some more) =
+          absurd (let never : false ≡ true = sym (ap (λ (b : Bool). not b || (is_some is.from.last && not is.from.is_spent)) is.nothing
+          ∙ (ap (λ (b : Bool). b && not is.from.is_spent) is.behind ∙ ap not is.spent)) ∙ more in cc (never))
+      on (climb.cut_short y some none last spent) = refl
+      on (climb.goes_on y some none between goes) = absurd (let never : true ≡ false = sym is.behind ∙ ap (λ (o : Option (List ℕ)). is_some o) between in cc (never))
 
 spent_owes : (tree : ℕ) (w : Work) (a : Answer) (next : Step) (t : Trouble) → Leads tree w a next → Spends w a t → NextOwes next t
 spent_owes tree w a next (trouble.Exhausted counter.Version) leads (inl (due, is, s)) = due_owes tree w a next version_spent leads due is (spent_stops due s)
@@ -448,9 +543,7 @@ at_leaf : (tree : ℕ) (h : Held) (f : Folding) (w : Work) (cs : Calls) (a : Ans
 at_leaf tree h f w cs a next t is nothing knows leads k =
     let known : KnowsAt tree (work.Folding h f) cs = subst (λ (x : Work). KnowsAt tree x cs) is knows in
     let e : Leads tree (work.Folding h f) a next = subst (λ (x : Work). Leads tree x a next) is leads in
-    owes_by t next _ e
-    (subst (λ (b : Bool). NextOwes (folding_on h (cond b (leaf_got f (got_of a)) (leaf_put f (done_of a)))) t) (sym nothing)
-    (leaf_owes tree h f a t known.chart.same k))
+    owes_by t next _ e (leaf_owes h t (folding_next f a) (leaf_breaks tree t known.chart.same nothing k (works f a)))
 
 demanded_owes : (m : Making) (h : List Deed) (a : Answer) (next : Step) (t : Trouble) → Stands m h → KnowsAt m.tree m.work (calls_of h)
     → Fits (making_ask m) a → Leads m.tree m.work a next → Demands m.tree m.work a t → NextOwes next t

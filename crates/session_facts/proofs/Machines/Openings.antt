@@ -1,5 +1,4 @@
 -- Openings: what an opening or a recovery knows of a cloud, that it survives the calls of others, and what its own calls leave.
-pub mod Turns
 pub mod Kept
 pub mod Messages
 pub mod Sends
@@ -11,7 +10,6 @@ pub mod Others
 pub mod Nexts
 pub mod Sifted
 pub mod Gathered
-pub mod Clears
 pub mod Refusals
 pub mod Landings
 pub mod Outcome

@@ -12,8 +12,8 @@ use Rattle.cloud_facts.specs.Leases.Guards.{IsGuarded}
 use Rattle.cloud_facts.specs.Leases.Leases.{Owns, KeptBy, GainedBy, RenewedTo}
 use Rattle.session_facts.specs.Machines.Openings.Knows.{leases_of_recovery, leases_of_end, leases_of_next, HasFormer, HasLease, KnowsOpeningAt, KnowsOpening}
 use Rattle.session_facts.proofs.Machines.Openings.Others.{former_in_hand, lease_in_hand}
-use Rattle.session_facts.proofs.Machines.Openings.Turns.{AtWork, Works, Turns, turns}
-use Rattle.session_facts.proofs.Machines.Openings.Turns as turn
+use Rattle.recover_run.proofs.Turns.{AtWork, Works, Turns, turns}
+use Rattle.recover_run.proofs.Turns as turn
 use Rattle.recover_run.specs.declared.items.AtomicItem.{AtomicItem}
 use Rattle.recover_run.specs.declared.stage.Stage.{Stage}
 use Rattle.recover_run.specs.declared.stage.Stage.TheVariants.{ReleasingOld, Taking, Getting, Receiving, Deleting, Sending, Putting, Clearing, Sweeping, Releasing, Finished}

@@ -1,10 +1,10 @@
 -- What the calls of an opening leave that touch an object or a message, whether they land or not.
-use Rattle.std.proofs.Common.{◌≡◌, ◌+◌, ◌<◌, ◌≤◌, ◌⊎◌, inl, inr, ℕ, List, [], ◌∷◌, length, Some, None, Result, Ok, Err, refl, sym, ap, subst, ◌∙◌, arith}
+use Rattle.std.proofs.Common.{◌≡◌, ◌+◌, ◌<◌, ◌≤◌, ◌⊎◌, inl, inr, ℕ, List, [], ◌∷◌, length, Some, None, Ok, refl, sym, ap, subst, ◌∙◌, arith}
 use Rattle.std.specs.Prelude.{slice_get}
 use Rattle.std.specs.List.{AllByRecursion}
 use Rattle.std.proofs.lemmas.List.{append-nil}
 use Rattle.cloud_facts.specs.Calls.Acting.{IsPruned, KnowsHome, Setting, Outcome}
-use Rattle.cloud_facts.specs.Words.{IsClient, Trouble, Entry, AtomicRec, Head, Answer, CloudState, called, Caller, Lasts, Ask, PutHeld, Send, Delete, done_of, sent_of, Book, Store, at, IsIn, store_of, IsCall}
+use Rattle.cloud_facts.specs.Words.{IsClient, Entry, AtomicRec, Head, Answer, CloudState, called, Caller, Lasts, Ask, PutHeld, Send, Delete, done_of, sent_of, Book, Store, at, IsIn, store_of, IsCall}
 use Rattle.cloud_facts.specs.Calls.Looks.{audit_of}
 use Rattle.cloud_facts.specs.Calls.Others.{Passes, WasSentOn}
 use Rattle.cloud_facts.proofs.Calls.Calls.{put_cases, put_lasts, send_cases, delete_cases}
@@ -22,13 +22,10 @@ use Rattle.cloud_facts.specs.Landings.Landing.{Landing, settles, posts, marks_lo
 use Rattle.cloud_facts.specs.Lefts.Left.{IsCopied}
 use Rattle.cloud_facts.proofs.Lefts.MessageLemmas.{marked_deleted}
 use Rattle.log_codec.specs.Pu.{pu_of}
-use Rattle.session_facts.specs.Machines.Openings.Knows.{leases_of_recovery, IsWanted, IsMessageThat, MayStopOpening, KnowsGathering, KnowsSifted, KnowsLost, KnowsSending, KnowsPut, KnowsNext, opening_with}
-use Rattle.session_facts.proofs.Machines.Openings.Clears.{kept_leads, cleared_leads}
-use Rattle.session_facts.proofs.Machines.Openings.Gathered.{sent_leads, deleted_leads}
+use Rattle.session_facts.specs.Machines.Openings.Knows.{leases_of_recovery, IsWanted, IsMessageThat, KnowsGathering, KnowsSifted, KnowsLost, KnowsSending, KnowsPut, KnowsNext, opening_with}
 use Rattle.session_facts.proofs.Machines.Openings.Kept.{each_in, wanted_ids}
-use Rattle.session_facts.proofs.Machines.Openings.Nexts.{LeadsToPart, away_from, stops_lead}
+use Rattle.session_facts.proofs.Machines.Openings.Nexts.{LeadsToPart, KnowsBehind, leads}
 use Rattle.session_facts.proofs.Machines.Openings.Marks.{past_low, marks_past, lost_low, marks_lost}
-use Rattle.session_facts.proofs.Machines.Openings.Refusals.{done_may, sent_may}
 use Rattle.session_facts.proofs.Machines.Openings.Others.{lease_in_hand, gathers_passes, sifted_passes, sends_pass, messages_pass, put_passes}
 use Rattle.session_facts.proofs.Machines.Openings.Sifted.{deleted_sifted}
 use Rattle.session_facts.proofs.Machines.Openings.Sends.{posts_record, posted_sent, sent_in_turn, settles_read}
@@ -36,7 +33,10 @@ use Rattle.recover_run.specs.declared.items.AtomicItem.{AtomicItem}
 use Rattle.recover_run.specs.declared.wanted.Wanted.{Wanted}
 use Rattle.recover_run.specs.Gathering.{is_lost, is_past}
 use Rattle.recover_run.specs.Ids.{rest_of}
-use Rattle.recover_run.specs.Recovery.{Recovery, Step, deleted_by, cleared, sent_by as sent_next, put_by}
+use Rattle.recover_run.proofs.Outcomes.{at as at_stage, comes}
+use Rattle.recover_run.specs.declared.stage.Stage.{Stage}
+use Rattle.recover_run.specs.declared.stage.Stage.TheVariants.{Deleting, Sending, Putting, Clearing}
+use Rattle.recover_run.specs.Recovery.{Recovery, Step, recovery_next}
 use Rattle.route_plan.specs.Record.{pu_record_of}
 use Rattle.cloud_facts.specs.Book.Effects.{after_head, after_log_mark, after_posted}
 use Rattle.cloud_facts.specs.Book.Messages.{IsLogMessage, IsDeleted}
@@ -51,15 +51,28 @@ module _ (who : Caller) (book : Book) (order : List Entry) (s t : CloudState) (p
   abbrev st : Store
   st = store_of book order s
 
-  -- what a call leaves whose answer leads by this step
-  abbrev Leaves : Ask → Step → Type 0
-  Leaves ask step = Outcome who book order s t parts (leases_of_recovery r) ask (λ a. a) (KnowsNext step)
+  -- where the answer leads from a stage
+  abbrev pub next : Stage → Step
+  next stage = recovery_next (at_stage r stage) reply
 
-  here : HomesHold st.tally t.now (at who.session part parts)
+  -- what a call of the stage leaves
+  abbrev pub Leaves : Stage → Ask → Type 0
+  Leaves stage ask = Outcome who book order s t parts (leases_of_recovery r) ask (λ a. a) (KnowsNext (next stage))
+
+  pub after : (stage : Stage) (u : Store) (p : Part) → HomesHold u.tally t.now (at who.session p parts)
+      → KnowsBehind who.session parts u t.now p stage (at_stage r stage) reply → LeadsToPart who.session parts u t.now (next stage)
+  after stage u p homes k = leads who.session parts u t.now p homes is k (comes (at_stage r stage) reply)
+
+  pub here : HomesHold st.tally t.now (at who.session part parts)
   here = keeps_part st.tally t.now parts who.session part mine setting.homes
 
   part_holds : PartHolds st.tally t.now part
   part_holds = subst (λ (p : Part). PartHolds st.tally t.now p) mine (setting.homes.each who.session)
+
+  stayed : (stage : Stage) (ask : Ask) → t ≡ called who t.now s → KnowsBehind who.session parts st t.now part stage (at_stage r stage) reply → Leaves stage ask
+  stayed stage ask e k =
+      let l = after stage st part here k in
+      stays who book order s t parts (leases_of_recovery r) ask (λ a. a) (KnowsNext (next stage)) e setting.cloud l.part l.homes l.knows
 
   -- ---- deletions
 
@@ -68,40 +81,37 @@ module _ (who : Caller) (book : Book) (order : List Entry) (s t : CloudState) (p
     abbrev marked_store : Store
     marked_store = after_log_mark r.client id st
 
-    deletes : (step : Step) → ((u : Store) → Passes st u → u.tally.head ≡ st.tally.head → (done_of reply ≡ Ok tt → IsDeleted (u.tally.logged r.client) id)
-        → HomesHold u.tally t.now (at who.session part parts) → LeadsToPart who.session parts u t.now step) → Leaves (Delete (queue.Atomic r.client) id) step
-    deletes step leads = on (delete_cases who (queue.Atomic r.client) id reply s t call)
+    deletes : (stage : Stage) → ((u : Store) → Passes st u → u.tally.head ≡ st.tally.head → (done_of reply ≡ Ok tt → IsDeleted (u.tally.logged r.client) id)
+        → KnowsBehind who.session parts u t.now part stage (at_stage r stage) reply) → Leaves stage (Delete (queue.Atomic r.client) id)
+    deletes stage knows = on (delete_cases who (queue.Atomic r.client) id reply s t call)
       where
         landing : Landing who st (Delete (queue.Atomic r.client) id) marked_store
         landing = marks_log r.client id marks
 
-        stayed : t ≡ called who t.now s → LeadsToPart who.session parts st t.now step → Leaves (Delete (queue.Atomic r.client) id) step
-        stayed e l = stays who book order s t parts (leases_of_recovery r) (Delete (queue.Atomic r.client) id) (λ a. a) (KnowsNext step) e setting.cloud l.part l.homes l.knows
-
-        landed : Lands who (Delete (queue.Atomic r.client) id) (called who t.now s) t → LeadsToPart who.session parts marked_store t.now step → Leaves (Delete (queue.Atomic r.client) id) step
-        landed lands l =
-            other_landed who book order s t parts (leases_of_recovery r) (Delete (queue.Atomic r.client) id) (λ a. a) (KnowsNext step) marked_store lands setting.cloud (marks_log r.client id marks) tt tt tt l.part l.homes l.knows (λ look new. refl) refl
-
-        on : ((t ≡ called who t.now s) × (done_of reply ≡ Ok tt → ⊥)) ⊎ Lands who (Delete (queue.Atomic r.client) id) (called who t.now s) t → Leaves (Delete (queue.Atomic r.client) id) step
-        on (inl p) = stayed p.0 (leads st (passes_itself st) refl (λ done. absurd (p.1 done)) here)
-        on (inr lands) =
-            landed lands
-            (leads marked_store (landing_passes who st (Delete (queue.Atomic r.client) id) marked_store setting.cloud.holds landing) refl
+        known : KnowsBehind who.session parts marked_store t.now part stage (at_stage r stage) reply
+        known =
+            knows marked_store (landing_passes who st (Delete (queue.Atomic r.client) id) marked_store setting.cloud.holds landing) refl
             (λ done. subst (λ ps. IsDeleted ps id) (sym (at_same r.client _ st.tally.logged r.client refl)) (marked_deleted (st.tally.logged r.client) id of message))
-            (keeps_part marked_store.tally t.now parts who.session part mine (marked_keeps st t.now parts r.client id spared setting.homes)))
+
+        on : ((t ≡ called who t.now s) × (done_of reply ≡ Ok tt → ⊥)) ⊎ Lands who (Delete (queue.Atomic r.client) id) (called who t.now s) t
+            → Leaves stage (Delete (queue.Atomic r.client) id)
+        on (inl p) = stayed stage (Delete (queue.Atomic r.client) id) p.0 (knows st (passes_itself st) refl (λ done. absurd (p.1 done)))
+        on (inr lands) =
+            let l = after stage marked_store part (keeps_part marked_store.tally t.now parts who.session part mine (marked_keeps st t.now parts r.client id spared setting.homes)) known in
+            other_landed who book order s t parts (leases_of_recovery r) (Delete (queue.Atomic r.client) id) (λ a. a) (KnowsNext (next stage)) marked_store lands setting.cloud
+            (marks_log r.client id marks) tt tt tt l.part l.homes l.knows (λ look new. refl) refl
 
   -- of a lost record
   pub lost_deleted : (id : ℕ) (ids : List ℕ) → r.ids ≡ id ∷ ids → IsCall who (Delete (queue.Atomic r.client) id) reply s t → KnowsGathering st r part
-      → KnowsSifted st r r.ids → KnowsLost st r → Leaves (Delete (queue.Atomic r.client) id) (deleted_by r (done_of reply))
+      → KnowsSifted st r r.ids → KnowsLost st r → Leaves Deleting (Delete (queue.Atomic r.client) id)
   lost_deleted id ids ids_are call k sifted lost =
-      deletes id call that.of that.message (marks_lost st r.client r.wanted k.read.before id k.read.wanted_is holds.later that) spared (deleted_by r (done_of reply))
-      (λ u passes heads gone homes.
-      deleted_leads who.session parts u t.now part homes r is (gathers_passes st u r.client passes r.former r.lease r.wanted r.head r.gathered.kept part k)
-      (messages_pass st u r.client passes (is_lost r.wanted) r.ids lost.0, lost.1) (done_of reply)
-      (λ a done. subst (λ l. KnowsSifted u r (rest_of l)) (sym ids_are) (
-      deleted_sifted u r.client r.wanted id ids r.gathered (subst (KnowsSifted u r) ids_are (sifted_passes st u r.client passes r.wanted r.ids r.gathered sifted)) (gone done)
+      deletes id call that.of that.message (marks_lost st r.client r.wanted k.read.before id k.read.wanted_is holds.later that) spared Deleting
+      (λ u passes heads gone. (
+        gathers_passes st u r.client passes r.former r.lease r.wanted r.head r.gathered.kept part k,
+        (messages_pass st u r.client passes (is_lost r.wanted) r.ids lost.0, lost.1),
+        λ done. subst (λ l. KnowsSifted u r (rest_of l)) (sym ids_are)
+            (deleted_sifted u r.client r.wanted id ids r.gathered (subst (KnowsSifted u r) ids_are (sifted_passes st u r.client passes r.wanted r.ids r.gathered sifted)) (gone done)),
       ))
-      (done_may reply))
     where
       that : IsMessageThat st r.client (is_lost r.wanted) id
       that = (subst (AllByRecursion (IsMessageThat st r.client (is_lost r.wanted))) ids_are lost.0).0
@@ -117,13 +127,13 @@ module _ (who : Caller) (book : Book) (order : List Entry) (s t : CloudState) (p
 
   -- of a past record, behind the put
   pub past_deleted : (id : ℕ) (ids : List ℕ) → r.ids ≡ id ∷ ids → IsCall who (Delete (queue.Atomic r.client) id) reply s t → KnowsPut st t.now r part
-      → AllByRecursion (IsMessageThat st r.client (is_past r.wanted)) r.ids → Leaves (Delete (queue.Atomic r.client) id) (cleared r)
+      → AllByRecursion (IsMessageThat st r.client (is_past r.wanted)) r.ids → Leaves Clearing (Delete (queue.Atomic r.client) id)
   past_deleted id ids ids_are call k all =
-      deletes id call that.of that.message (marks_past st r.client r.wanted id later that) spared (cleared r)
-      (λ u passes heads gone homes.
-      cleared_leads who.session parts u t.now part homes r is
-      (put_passes st u t.now t.now r.client r.former r.lease r.wanted r.head part (omega arith) passes.grows (λ l e lock_is lasts. ap (λ (f : ℕ → Head). f r.client) heads) k)
-      (messages_pass st u r.client passes (is_past r.wanted) r.ids all))
+      deletes id call that.of that.message (marks_past st r.client r.wanted id later that) spared Clearing
+      (λ u passes heads gone. (
+        put_passes st u t.now t.now r.client r.former r.lease r.wanted r.head part (omega arith) passes.grows (λ l e lock_is lasts. ap (λ (f : ℕ → Head). f r.client) heads) k,
+        messages_pass st u r.client passes (is_past r.wanted) r.ids all,
+      ))
     where
       that : IsMessageThat st r.client (is_past r.wanted) id
       that = (subst (AllByRecursion (IsMessageThat st r.client (is_past r.wanted))) ids_are all).0
@@ -169,30 +179,21 @@ module _ (who : Caller) (book : Book) (order : List Entry) (s t : CloudState) (p
     abbrev sending : Landing who st send sent_store
     sending = posts x.rec.tree x.rec.page r.out x.rec (posts_record st who x.rec r.out logged reads turn)
 
-    sends : (u : Store) → Passes st u → HomesHold u.tally t.now (at who.session part parts) → ((id : ℕ) → sent_of reply ≡ Ok id → WasSentOn u.tally x.rec × IsCopied u.tally x.rec)
-        → LeadsToPart who.session parts u t.now (sent_next r (sent_of reply))
-    sends u passes homes done =
-        sent_leads who.session parts u t.now part homes r is x there (sends_pass st u r.client passes r.former r.lease r.wanted r.head r.gathered.kept part r.sent k) (sent_of reply) done
-        (sent_may reply)
+    sends : (u : Store) → Passes st u → ((id : ℕ) → sent_of reply ≡ Ok id → WasSentOn u.tally x.rec × IsCopied u.tally x.rec)
+        → KnowsBehind who.session parts u t.now part Sending (at_stage r Sending) reply
+    sends u passes done = (sends_pass st u r.client passes r.former r.lease r.wanted r.head r.gathered.kept part r.sent k, (x, there, done))
 
-    pub record_sent : IsCall who send reply s t → Leaves send (sent_next r (sent_of reply))
+    pub record_sent : IsCall who send reply s t → Leaves Sending send
     record_sent call = on (send_cases who (queue_of x.rec.tree x.rec.page) r.out reply s t call)
       where
-        stayed : t ≡ called who t.now s → LeadsToPart who.session parts st t.now (sent_next r (sent_of reply)) → Leaves send (sent_next r (sent_of reply))
-        stayed e l = stays who book order s t parts (leases_of_recovery r) send (λ a. a) (KnowsNext (sent_next r (sent_of reply))) e setting.cloud l.part l.homes l.knows
-
-        landed : Lands who send (called who t.now s) t → LeadsToPart who.session parts sent_store t.now (sent_next r (sent_of reply)) → Leaves send (sent_next r (sent_of reply))
-        landed lands l =
-            other_landed who book order s t parts (leases_of_recovery r) send (λ a. a) (KnowsNext (sent_next r (sent_of reply))) sent_store lands setting.cloud sending tt tt tt l.part l.homes l.knows
-            (λ look new. refl) refl
-
-        on : ((t ≡ called who t.now s) × ((id : ℕ) → sent_of reply ≡ Ok id → ⊥)) ⊎ Lands who send (called who t.now s) t → Leaves send (sent_next r (sent_of reply))
-        on (inl p) = stayed p.0 (sends st (passes_itself st) here (λ id done. absurd (p.1 id done)))
+        on : ((t ≡ called who t.now s) × ((id : ℕ) → sent_of reply ≡ Ok id → ⊥)) ⊎ Lands who send (called who t.now s) t → Leaves Sending send
+        on (inl p) = stayed Sending send p.0 (sends st (passes_itself st) (λ id done. absurd (p.1 id done)))
         on (inr lands) =
-            landed lands
-            (sends sent_store (landing_passes who st send sent_store setting.cloud.holds sending)
-            (keeps_part sent_store.tally t.now parts who.session part mine (aside_keeps st.tally sent_store.tally t.now parts refl refl setting.homes))
-            (λ id done. posted_sent st who x.rec r.out reads))
+            let l =
+            after Sending sent_store part (keeps_part sent_store.tally t.now parts who.session part mine (aside_keeps st.tally sent_store.tally t.now parts refl refl setting.homes))
+            (sends sent_store (landing_passes who st send sent_store setting.cloud.holds sending) (λ id done. posted_sent st who x.rec r.out reads)) in
+            other_landed who book order s t parts (leases_of_recovery r) send (λ a. a) (KnowsNext (next Sending)) sent_store lands setting.cloud sending tt tt tt l.part l.homes l.knows
+            (λ look new. refl) refl
 
   -- ---- the put
 
@@ -202,11 +203,6 @@ module _ (who : Caller) (book : Book) (order : List Entry) (s t : CloudState) (p
 
     abbrev put_store : Store
     put_store = after_head r.client r.head [] st
-
-    -- it did not land
-    fails : (g : Result (Unit {0}) Trouble) → (g ≡ Ok tt → ⊥) → ((e : Trouble) → g ≡ Err e → MayStopOpening e) → LeadsToPart who.session parts st t.now (put_by r g)
-    fails (Ok tt) never refused = absurd (never refl)
-    fails (Err e) never refused = stops_lead who.session parts st t.now (away_from who.session parts st t.now part here) r is (Err e) (refused e refl) k.read.held
 
     module _ (lasts : Lasts t.now k.read.held.now) where
       abbrev new : Home
@@ -263,26 +259,17 @@ module _ (who : Caller) (book : Book) (order : List Entry) (s t : CloudState) (p
         later = let e : r.wanted.epoch ≡ k.read.before.epoch = ap (λ (w : Wanted). w.epoch) k.read.wanted_is in omega (arith, e, epoch);
       }
 
-      lands_so : (g : Result (Unit {0}) Trouble) → ((e : Trouble) → g ≡ Err e → MayStopOpening e) → LeadsToPart who.session parts put_store t.now (put_by r g)
-      lands_so (Ok tt) refused =
-          kept_leads who.session parts put_store t.now (AtHome new) opened r is has_put
-          (wanted_ids put_store r.client r.wanted r.gathered.kept
-          (sends_pass st put_store r.client passes r.former r.lease r.wanted r.head r.gathered.kept part (length r.gathered.kept) k).read.kept_are)
-      lands_so (Err e) refused =
-          stops_lead who.session parts put_store t.now (away_from who.session parts put_store t.now (AtHome new) opened) r is (Err e) (refused e refl) k.read.held
+      head_landed : Lands who put (called who t.now s) t → Leaves Putting put
+      head_landed lands =
+          let l = after Putting put_store (AtHome new) opened (k.read.held, λ done. (has_put, wanted_ids put_store r.client r.wanted r.gathered.kept sent_on.read.kept_are)) in
+          put_landed who book order s t parts (leases_of_recovery r) (λ a. a) (KnowsNext (next Putting)) (object.Head r.client) r.out k.read.held.now None put_store lands setting.cloud settling tt tt tt l.part l.homes l.knows (ap (λ log. audit_of (record book { log = log }) order) (sym (append-nil book.log)))
+        where
+          sent_on : KnowsSending put_store r part (length r.gathered.kept)
+          sent_on = sends_pass st put_store r.client passes r.former r.lease r.wanted r.head r.gathered.kept part (length r.gathered.kept) k
 
-      head_landed : Lands who put (called who t.now s) t → LeadsToPart who.session parts put_store t.now (put_by r (done_of reply)) → Leaves put (put_by r (done_of reply))
-      head_landed lands l =
-          put_landed who book order s t parts (leases_of_recovery r) (λ a. a) (KnowsNext (put_by r (done_of reply))) (object.Head r.client) r.out k.read.held.now None put_store lands setting.cloud settling tt tt tt l.part l.homes l.knows (ap (λ log. audit_of (record book { log = log }) order) (sym (append-nil book.log)))
-
-    pub head_put : IsCall who put reply s t → Leaves put (put_by r (done_of reply))
+    pub head_put : IsCall who put reply s t → Leaves Putting put
     head_put call = on (put_cases who (object.Head r.client) r.out k.read.held.now None reply s t call)
       where
-        stayed : t ≡ called who t.now s → LeadsToPart who.session parts st t.now (put_by r (done_of reply)) → Leaves put (put_by r (done_of reply))
-        stayed e l = stays who book order s t parts (leases_of_recovery r) put (λ a. a) (KnowsNext (put_by r (done_of reply))) e setting.cloud l.part l.homes l.knows
-
-        on : ((t ≡ called who t.now s) × (done_of reply ≡ Ok tt → ⊥)) ⊎ Lands who put (called who t.now s) t → Leaves put (put_by r (done_of reply))
-        on (inl p) = stayed p.0 (fails (done_of reply) p.1 (done_may reply))
-        on (inr lands) =
-            let lasts = put_lasts who (object.Head r.client) r.out k.read.held.now None (called who t.now s) t lands in
-            head_landed lasts lands (lands_so lasts (done_of reply) (done_may reply))
+        on : ((t ≡ called who t.now s) × (done_of reply ≡ Ok tt → ⊥)) ⊎ Lands who put (called who t.now s) t → Leaves Putting put
+        on (inl p) = stayed Putting put p.0 (k.read.held, λ done. absurd (p.1 done))
+        on (inr lands) = head_landed (put_lasts who (object.Head r.client) r.out k.read.held.now None (called who t.now s) t lands) lands

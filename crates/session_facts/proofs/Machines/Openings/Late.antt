@@ -16,8 +16,8 @@ use Rattle.recover_run.specs.declared.stage.Stage.TheVariants.{ReleasingOld, Tak
 use Rattle.recover_run.specs.Recovery.{Recovery, Step, recovery_ask, recovery_next, ask_at, under, delete_next, send_next}
 use Rattle.session_facts.specs.Machines.Openings.Knows.{leases_of_recovery, HasLease, MayEnd, KnowsOpeningAt, KnowsOpening}
 use Rattle.session_facts.specs.Sessions.Explains.{trouble_at, trouble_of_ending, trouble_of_recovery, MeetsNext, HasOver, ReceivesLate}
-use Rattle.session_facts.proofs.Machines.Openings.Turns.{Turns, turns_to}
-use Rattle.session_facts.proofs.Machines.Openings.Turns as turn
+use Rattle.recover_run.proofs.Turns.{Turns, turns_to}
+use Rattle.recover_run.proofs.Turns as turn
 use Rattle.std.proofs.lemmas.Option.{none-some}
 
 -- no records are waited for

@@ -4,7 +4,7 @@ use Rattle.std.specs.Prelude.{slice_get, All}
 use Rattle.std.specs.List.{AllByRecursion}
 use Rattle.std.proofs.lemmas.List.Elements.{recursion_from_All}
 use Rattle.cloud_facts.specs.Calls.Acting.{Setting, Outcome}
-use Rattle.cloud_facts.specs.Words.{IsClient, ObjName, QueueName, Lock, Entry, Answer, CloudState, newest, Caller, Claim, Lasts, Ask, GetHeld, PutHeld, Send, Receive, Delete, Take, Release, got_of, given_of, received_of, Book, Store, at, store_of, IsCall}
+use Rattle.cloud_facts.specs.Words.{IsClient, ObjName, QueueName, Lock, Entry, Answer, CloudState, newest, Caller, Claim, Lasts, Ask, GetHeld, PutHeld, Send, Receive, Delete, Take, Release, got_of, given_of, received_of, Book, Store, store_of, IsCall}
 use Rattle.cloud_facts.proofs.Calls.Heads.{head_at, newest_head, held_seen}
 use Rattle.cloud_facts.proofs.Calls.Outcomes.{quiet}
 use Rattle.cloud_trait.specs.declared.answer.Answer.TheVariants.{Got, Received, Given}
@@ -15,20 +15,17 @@ use Rattle.cloud_trait.specs.Weather.{Fits}
 use Rattle.db_base.specs.declared.names.Lock.TheVariants as lock
 use Rattle.db_base.specs.declared.names.ObjName.TheVariants as object
 use Rattle.db_base.specs.declared.names.QueueName.TheVariants as queue
-use Rattle.cloud_facts.specs.Homes.Homes.{Part, Parts, Away, IsAlone, HomesHold}
-use Rattle.cloud_facts.proofs.Homes.HomeLemmas.{keeps_part, away_keeps}
-use Rattle.session_facts.specs.Machines.Openings.Knows.{leases_of_recovery, HasFormer, HasLease, IsMessageThat, KnowsGathering, KnowsSifted, KnowsLost, KnowsSending, KnowsPut, KnowsOpeningAt, KnowsOpening, KnowsNext}
-use Rattle.session_facts.proofs.Machines.Openings.Clears.{swept_leads}
-use Rattle.session_facts.proofs.Machines.Openings.Gathered.{AllRead, received_leads}
-use Rattle.session_facts.proofs.Machines.Openings.Landings.{lost_deleted, past_deleted, record_sent, head_put}
-use Rattle.session_facts.proofs.Machines.Openings.Nexts.{LeadsToPart, ReadsHead, old_leads, taken_leads, got_leads, ended_leads}
+use Rattle.cloud_facts.specs.Homes.Homes.{Part, Parts, Away, IsAlone}
+use Rattle.session_facts.specs.Machines.Openings.Knows.{leases_of_recovery, HasFormer, HasLease, HasReadNothing, IsMessageThat, KnowsGathering, KnowsSifted, KnowsLost, KnowsSending, KnowsPut, KnowsOpeningAt, KnowsOpening, KnowsNext}
+use Rattle.session_facts.proofs.Machines.Openings.Landings.{Leaves, after, here, lost_deleted, past_deleted, record_sent, head_put}
+use Rattle.session_facts.proofs.Machines.Openings.Nexts.{KnowsBehind}
 use Rattle.session_facts.proofs.Machines.Openings.Others.{lease_in_hand}
-use Rattle.session_facts.proofs.Machines.Openings.Refusals.{newest_reads, all_read, got_may, received_may}
+use Rattle.session_facts.proofs.Machines.Openings.Refusals.{ReadsHead, AllRead, newest_reads, all_read}
 use Rattle.recover_run.specs.declared.items.AtomicItem.{AtomicItem}
 use Rattle.recover_run.specs.declared.stage.Stage.{Stage}
 use Rattle.recover_run.specs.declared.stage.Stage.TheVariants.{ReleasingOld, Taking, Getting, Receiving, Deleting, Sending, Putting, Clearing, Sweeping, Releasing, Finished}
-use Rattle.recover_run.specs.Gathering.{nothing_gathered, is_past}
-use Rattle.recover_run.specs.Recovery.{Recovery, recovery_ask, ask_at, under, delete_next, send_next, recovery_next, next_at, SendsRecord, IsSoundAt, IsSound}
+use Rattle.recover_run.specs.Gathering.{is_past}
+use Rattle.recover_run.specs.Recovery.{Recovery, recovery_ask, ask_at, under, delete_next, send_next, recovery_next, SendsRecord, IsSoundAt, IsSound}
 use Rattle.session_facts.proofs.Machines.Commits.Settled.{queue_is}
 
 -- ---- what an answer shows
@@ -61,11 +58,8 @@ module _ (who : Caller) (book : Book) (order : List Entry) (s t : CloudState) (p
   abbrev Out : Type 0
   Out = Outcome who book order s t parts (leases_of_recovery r) (recovery_ask r) (λ a. a) (KnowsNext (recovery_next r reply))
 
-  away : HomesHold st.tally t.now (at who.session Away parts)
-  away = away_keeps st.tally t.now parts who.session setting.homes
-
-  here : HomesHold st.tally t.now (at who.session part parts)
-  here = keeps_part st.tally t.now parts who.session part mine setting.homes
+  abbrev Stay : Stage → Ask → Type 0
+  Stay stage ask = Leaves who book order s t parts r part reply setting mine is stage ask
 
   asks : (stage : Stage) → r.stage ≡ stage → recovery_ask r ≡ ask_at stage r
   asks stage e = ap (λ (g : Stage). ask_at g r) e
@@ -77,32 +71,28 @@ module _ (who : Caller) (book : Book) (order : List Entry) (s t : CloudState) (p
   call_at ask e = subst (λ (a : Ask). IsCall who a reply s t) e call
 
   -- what its call leaves, by the call and the step of its stage
-  out_at : (stage : Stage) → r.stage ≡ stage → (ask : Ask) → recovery_ask r ≡ ask → Outcome who book order s t parts (leases_of_recovery r) ask (λ a. a) (KnowsNext (next_at stage r reply)) → Out
-  out_at stage e ask asked o =
-      subst (λ (a : Ask). Outcome who book order s t parts (leases_of_recovery r) a (λ a. a) (KnowsNext (recovery_next r reply))) (sym asked)
-      (subst (λ (g : Stage). Outcome who book order s t parts (leases_of_recovery r) ask (λ a. a) (KnowsNext (next_at g r reply))) (sym e) o)
+  out_at : (stage : Stage) → r.stage ≡ stage → (ask : Ask) → recovery_ask r ≡ ask → Stay stage ask → Out
+  out_at stage e ask asked o = subst (λ (a : Ask). Stay r.stage a) (sym asked) (subst (λ (g : Stage). Stay g ask) (sym e) o)
 
-  quiet_at : (stage : Stage) → r.stage ≡ stage → (ask : Ask) → recovery_ask r ≡ ask → PutsNothing ask → TouchesNoMessage ask → LeadsToPart who.session parts st t.now (next_at stage r reply) → Out
-  quiet_at stage e ask asked puts touches l =
+  quiet_at : (stage : Stage) → r.stage ≡ stage → (ask : Ask) → recovery_ask r ≡ ask → PutsNothing ask → TouchesNoMessage ask
+      → KnowsBehind who.session parts st t.now part stage (record r { stage = stage }) reply → Out
+  quiet_at stage e ask asked puts touches k =
+      let l = after who book order s t parts r part reply setting mine is stage st part (here who book order s t parts r part reply setting mine is) k in
       out_at stage e ask asked
-      (quiet who book order s t parts (leases_of_recovery r) ask (λ a. a) (KnowsNext (next_at stage r reply)) reply (call_at ask asked) puts touches setting.cloud l.part l.homes l.knows)
+      (quiet who book order s t parts (leases_of_recovery r) ask (λ a. a) (KnowsNext (recovery_next (record r { stage = stage }) reply)) reply (call_at ask asked) puts touches setting.cloud l.part l.homes l.knows)
 
   -- ---- without a part
 
-  at_old : r.stage ≡ ReleasingOld → HasFormer r.former r.lease → r.gathered ≡ nothing_gathered → Out
-  at_old e f new =
-      quiet_at ReleasingOld e (Release f.old) (under_lease ReleasingOld e r.former f.old Release refl f.is) tt tt
-      (old_leads who.session parts st t.now away r is f new)
+  at_old : r.stage ≡ ReleasingOld → HasFormer r.former r.lease → HasReadNothing r part → Out
+  at_old e f nothing = quiet_at ReleasingOld e (Release f.old) (under_lease ReleasingOld e r.former f.old Release refl f.is) tt tt (f, nothing)
 
-  at_taking : r.stage ≡ Taking → r.former ≡ None → r.gathered ≡ nothing_gathered → Out
-  at_taking e none new =
+  at_taking : r.stage ≡ Taking → r.former ≡ None → HasReadNothing r part → Out
+  at_taking e none nothing =
       quiet_at Taking e (Take (lock.Client r.client) 600) (asks Taking e) tt tt
-      (taken_leads who.session parts st t.now away r is (given_of (lock.Client r.client) reply)
-      (given_lock (lock.Client r.client) reply (subst (λ (a : Ask). Fits a reply) (asks Taking e) fits)) none new)
+      (none, nothing, given_lock (lock.Client r.client) reply (subst (λ (a : Ask). Fits a reply) (asks Taking e) fits))
 
-  at_getting : r.stage ≡ Getting → HasLease r.client r.former r.lease → r.gathered ≡ nothing_gathered → Out
-  at_getting e held new =
-      quiet_at Getting e get asked tt tt (got_leads who.session parts st t.now away r is held new setting.cloud.holds.leaves setting.homes (got_of reply) seen (got_may reply))
+  at_getting : r.stage ≡ Getting → HasLease r.client r.former r.lease → HasReadNothing r part → Out
+  at_getting e held nothing = quiet_at Getting e get asked tt tt (held, nothing, setting.cloud.holds.leaves, setting.homes, seen)
     where
       get : Ask
       get = GetHeld (object.Head r.client) held.now
@@ -120,10 +110,8 @@ module _ (who : Caller) (book : Book) (order : List Entry) (s t : CloudState) (p
         newest_reads s r.client v setting.cloud.decodes (sym (newest_is v got)),
       )
 
-  at_releasing : r.stage ≡ Releasing → HasLease r.client r.former r.lease → Out
-  at_releasing e held =
-      quiet_at Releasing e (Release held.now) (under_lease Releasing e r.lease held.now Release refl held.is) tt tt
-      (ended_leads who.session parts st t.now away r is r.ending)
+  at_releasing : r.stage ≡ Releasing → HasLease r.client r.former r.lease → part ≡ Away → Out
+  at_releasing e held away = quiet_at Releasing e (Release held.now) (under_lease Releasing e r.lease held.now Release refl held.is) tt tt away
 
   -- ---- receives
 
@@ -135,13 +123,10 @@ module _ (who : Caller) (book : Book) (order : List Entry) (s t : CloudState) (p
 
   at_receiving : r.stage ≡ Receiving → KnowsGathering st r part → KnowsSifted st r [] → Out
   at_receiving e k sifted =
-      quiet_at Receiving e (Receive (queue.Atomic r.client) 256) (asks Receiving e) tt tt
-      (received_leads who.session parts st t.now part here r is (setting.cloud.holds.leaves.logged r.client is) k sifted (received_of reply) (sent_there Receiving e refl) (received_may reply))
+      quiet_at Receiving e (Receive (queue.Atomic r.client) 256) (asks Receiving e) tt tt (k, sifted, setting.cloud.holds.leaves.logged r.client is, sent_there Receiving e refl)
 
   at_sweeping : r.stage ≡ Sweeping → KnowsPut st t.now r part → Out
-  at_sweeping e k =
-      quiet_at Sweeping e (Receive (queue.Atomic r.client) 256) (asks Sweeping e) tt tt
-      (swept_leads who.session parts st t.now part here r is k (received_of reply) (sent_there Sweeping e refl) (received_may reply))
+  at_sweeping e k = quiet_at Sweeping e (Receive (queue.Atomic r.client) 256) (asks Sweeping e) tt tt (k, sent_there Sweeping e refl)
 
   -- ---- deletions
 
@@ -187,16 +172,16 @@ module _ (who : Caller) (book : Book) (order : List Entry) (s t : CloudState) (p
   by_stage k sound = on r.stage refl k sound
     where
       on : (stage : Stage) → r.stage ≡ stage → KnowsOpeningAt stage st t.now r part → IsSoundAt stage r → Out
-      on ReleasingOld e a w = at_old e a.0 a.1.0
-      on Taking e a w = at_taking e a.0 a.2.0
-      on Getting e a w = at_getting e a.0 a.1.0
+      on ReleasingOld e a w = at_old e a.0 a.1
+      on Taking e a w = at_taking e a.0 a.2
+      on Getting e a w = at_getting e a.0 a.1
       on Receiving e a w = at_receiving e a.0 a.1
       on Deleting e a w = at_deleting e a.0 a.1 a.2 w.1
       on Sending e a w = at_sending e a w.1
       on Putting e a w = at_putting e a w
       on Clearing e a w = at_clearing e a.0 a.1 w.1
       on Sweeping e a w = at_sweeping e a
-      on Releasing e a w = at_releasing e a.0
+      on Releasing e a w = at_releasing e a.0 a.1
       on Finished e a w = absurd a
 
 -- a call of an opening

@@ -1,7 +1,7 @@
 -- Why an answer stops an opening: a call failed, came too late or ran out of memory, and the lease may be held. No head and no message is damaged.
 use Rattle.std.proofs.Common.{◌≡◌, ℕ, List, [], ◌∷◌, map, Option, Some, None, Result, Ok, Err, refl, subst, ◌∙◌}
 use Rattle.std.specs.List.{AllByRecursion}
-use Rattle.cloud_facts.specs.Words.{Trouble, Lock, AtomicRec, Answer, CloudState, newest, done_of, got_of, given_of, received_of, sent_of}
+use Rattle.cloud_facts.specs.Words.{Trouble, Lock, AtomicRec, Head, Answer, CloudState, newest, done_of, got_of, given_of, received_of, sent_of}
 use Rattle.cloud_trait.specs.declared.answer.Answer.TheVariants.{Got, Sent, Received, Listed, Done, Given, Held, Renewed, Late, Failed, Memory}
 use Rattle.cloud_trait.specs.declared.message.Message.{Message}
 use Rattle.cloud_trait.specs.Delivery.{WasSent}
@@ -12,10 +12,9 @@ use Rattle.db_base.specs.declared.trouble.Trouble.TheVariants as trouble
 use Rattle.cloud_facts.specs.Decoding.Decodes.{Decodes}
 use Rattle.cloud_facts.proofs.Decoding.Values.{newest_head_decodes, message_decodes}
 use Rattle.head_codec.specs.Head.{empty_head}
+use Rattle.head_codec.specs.Spelling.{head_of}
 use Rattle.log_codec.specs.Atomic.{atomic_of}
 use Rattle.session_facts.specs.Machines.Openings.Knows.{MayStopOpening}
-use Rattle.session_facts.proofs.Machines.Openings.Gathered.{AllRead}
-use Rattle.session_facts.proofs.Machines.Openings.Nexts.{ReadsHead}
 use Rattle.recover_run.specs.declared.items.AtomicItem.{AtomicItem}
 use Rattle.recover_run.specs.Items.{items_of, with_first}
 use Rattle.cloud_facts.specs.Book.Telling.{last_or, head_in}
@@ -60,6 +59,15 @@ given_may k (Held until) t e = refusal (trouble.Busy k until) t (given_of k (Hel
 given_may k a t e = refusal (trouble_of a) t (given_of k a) (refused_may a) refl e
 
 -- ---- what is read
+
+-- bytes that are there spell a head
+abbrev pub ReadsHead : Option (List ℕ) → Type 0
+ReadsHead None = Unit {0}
+ReadsHead (Some bytes) = (h : Head) × (head_of bytes ≡ Some h)
+
+-- each message is a record
+abbrev pub AllRead : List Message → Type 0
+AllRead ms = (bad : Message) → items_of ms ≡ Err bad → ⊥
 
 -- the newest head of a client decodes
 pub newest_reads : (s : CloudState) (client : ℕ) (v : Option (List ℕ)) → Decodes s → newest s (object.Head client) ≡ v → ReadsHead v

@@ -4,8 +4,8 @@ use Rattle.cloud_trait.specs.declared.answer.Answer.{Answer}
 use Rattle.cloud_trait.specs.Machine.{Goes, Ends, Stops}
 use Rattle.recover_run.specs.Recovery.{Recovery, Step, recovery_next}
 use Rattle.session_facts.specs.Lines.Running.{IsSettledHead}
-use Rattle.session_facts.proofs.Machines.Openings.Turns.{Turns, turns_to}
-use Rattle.session_facts.proofs.Machines.Openings.Turns as turn
+use Rattle.recover_run.proofs.Turns.{Turns, turns_to}
+use Rattle.recover_run.proofs.Turns as turn
 
 -- where a step goes on, the head stays settled
 abbrev KeepsSettled : Step → Type 0

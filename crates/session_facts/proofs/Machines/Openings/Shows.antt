@@ -45,8 +45,8 @@ use Rattle.recover_run.specs.Recovery.{Recovery, Step, recovery_ask, recovery_ne
 use Rattle.recover_run.proofs.Outcomes.{at, Loses, Fails, Comes, comes_to}
 use Rattle.recover_run.proofs.Outcomes as step
 use Rattle.std.proofs.lemmas.Option.{none-some, same_Some}
-use Rattle.session_facts.proofs.Machines.Openings.Turns.{AtWork, Turns, turns}
-use Rattle.session_facts.proofs.Machines.Openings.Turns as turn
+use Rattle.recover_run.proofs.Turns.{AtWork, Turns, turns}
+use Rattle.recover_run.proofs.Turns as turn
 use Rattle.recover_run.proofs.KeptRecords.{all_so}
 use Rattle.recover_run.proofs.Sifting.{HasSeen, IsLostAt, seen_whole}
 use Rattle.recover_run.proofs.Sweeping.{IsHandled, each_has}

@@ -9,8 +9,8 @@ use Rattle.recover_run.specs.declared.stage.Stage.{Stage}
 use Rattle.recover_run.specs.declared.stage.Stage.TheVariants.{ReleasingOld, Taking, Releasing, Finished}
 use Rattle.recover_run.specs.Recovery.{Recovery, Step, new_recovery, recovery_next, home_of, home_with}
 use Rattle.session_facts.specs.Lines.Running.{IsHeld, EndsInTrouble, OpensAt, IsOpening}
-use Rattle.session_facts.proofs.Machines.Openings.Turns.{AtWork, Works, MayHalt, Turns, turns}
-use Rattle.session_facts.proofs.Machines.Openings.Turns as turn
+use Rattle.recover_run.proofs.Turns.{AtWork, Works, MayHalt, Turns, turns}
+use Rattle.recover_run.proofs.Turns as turn
 
 -- where a step leads it goes on for this client, or ends with a home of it
 abbrev pub OpensFor : ℕ → Step → Type 0

@@ -5,8 +5,8 @@ use Rattle.db_base.specs.declared.names.Lock.TheVariants as lock
 use Rattle.cloud_facts.specs.Homes.Homes.{Part}
 use Rattle.session_facts.specs.Machines.Openings.Knows.{MayStopOpening, MayEnd, KnowsOpeningAt, KnowsOpening}
 use Rattle.session_facts.proofs.Machines.Openings.Refusals.{given_may}
-use Rattle.session_facts.proofs.Machines.Openings.Turns.{Turns, turns_to}
-use Rattle.session_facts.proofs.Machines.Openings.Turns as turn
+use Rattle.recover_run.proofs.Turns.{Turns, turns_to}
+use Rattle.recover_run.proofs.Turns as turn
 use Rattle.recover_run.specs.Recovery.{Recovery, Step, recovery_next}
 
 -- a step that stops does so for such a trouble

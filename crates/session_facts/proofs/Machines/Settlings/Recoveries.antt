@@ -4,8 +4,8 @@ use Rattle.cloud_trait.specs.declared.answer.Answer.{Answer}
 use Rattle.cloud_trait.specs.Machine.{Goes, Ends, Stops}
 use Rattle.recover_run.specs.declared.stage.Aim.TheVariants.{Opening, Settling}
 use Rattle.recover_run.specs.Recovery.{Recovery, Step, recovery_next, home_of}
-use Rattle.session_facts.proofs.Machines.Openings.Turns.{Turns, turns}
-use Rattle.session_facts.proofs.Machines.Openings.Turns as turn
+use Rattle.recover_run.proofs.Turns.{Turns, turns}
+use Rattle.recover_run.proofs.Turns as turn
 
 -- where a step leads the client and the aim are as they were, and where it ends for a settling no client is open
 abbrev pub KeepsClient : Recovery → Step → Type 0

@@ -15,8 +15,8 @@ use Rattle.recover_run.specs.declared.stage.Stage.TheVariants.{ReleasingOld, Tak
 use Rattle.recover_run.specs.Recovery.{Recovery, Step, ask_at, recovery_ask, under, delete_next, send_next, recovery_next, home_with, IsSoundAt, IsSound, SendsRecord}
 use Rattle.session_facts.specs.Machines.Openings.Knows.{leases_of_recovery, leases_of_end, leases_of_next, HasFormer, HasLease, KnowsOpeningAt, KnowsOpening}
 use Rattle.session_facts.specs.Settling.Locks.{HasNone, UsesOwn}
-use Rattle.session_facts.proofs.Machines.Openings.Turns.{AtWork, Works, Turns, turns_to}
-use Rattle.session_facts.proofs.Machines.Openings.Turns as turn
+use Rattle.recover_run.proofs.Turns.{AtWork, Works, Turns, turns_to}
+use Rattle.recover_run.proofs.Turns as turn
 use Rattle.session_facts.proofs.Machines.Settlings.Recoveries.{KeepsClient, recovery_keeps}
 use Rattle.session_facts.proofs.Settling.Locks.{HoldsNext, not_given, quiet_after, quiet_uses, none_of}
 

@@ -15,13 +15,14 @@ use Rattle.recover_run.specs.Causes.{NothingNew, Counts, IsSifted, Shows, IsShow
 use Rattle.recover_run.specs.Counting.{known_indices}
 use Rattle.recover_run.specs.Gathering.{kept_with}
 use Rattle.recover_run.specs.Items.{items_of}
-use Rattle.recover_run.specs.Recovery.{under, receive_next, delete_next, send_next, with_pending}
+use Rattle.recover_run.specs.Recovery.{under, receive_next, delete_next, send_next}
 use Rattle.recover_run.proofs.Heard.{FreshIs, HeardAt, AscendAt, loses_heard, went_heard, went_ascend}
 use Rattle.recover_run.proofs.KeptRecords.{all_so, all_held, kept_more, kept_all, kept_rising, rising_room}
 use Rattle.recover_run.proofs.Knows.{KnowsAt, Gathering, KnowsTaken}
 use Rattle.recover_run.proofs.Meaning.{came_known}
 use Rattle.recover_run.proofs.Outcomes.{at, Reads, Loses, Readies, Clears, Fails, Comes, comes_to}
 use Rattle.recover_run.proofs.Outcomes as step
+use Rattle.recover_run.proofs.Turns.{loses_works, readies_works, clears_works}
 use Rattle.recover_run.proofs.Leases.{KeepsEnding, stands_ends, went_stands}
 use Rattle.recover_run.proofs.Words.{Trouble, Answer, Message, Turn, More, Ended, Stopped, Ask, GetHeld, PutHeld, Send, Receive, Delete, Take, Claim, Goes, Ends, Stops, LeadsBy, Took, Deed, calls_of, given_of, got_of, sent_of, received_of, done_of, Fits, AtomicItem, Aim, Taking, Getting, Receiving, Deleting, Sending, Putting, Sweeping, RecoverAnswer, Calls, Recovery, Step, recovery_ask, recovery_next, KeepsLeases, Went}
 
@@ -158,21 +159,6 @@ fails_shown {r = r} {a = a} q t old cs k heard up fits (step.waits d loses other
 none_kept : {A : Type 0} (o : Option (Result A Trouble)) (t : Trouble) → o ≡ None → o ≡ Some (Err t) → ⊥
 none_kept o t none e = cc (none, e)
 
-loses_ending : {r : Recovery} {a : Answer} (q : Recovery) (ids : List ℕ) → Loses r a q ids → q.ending ≡ r.ending
-loses_ending q ids (step.received r ms items e) = refl
-loses_ending q ids (step.one_gone r) = refl
-
-readies_ending : {r : Recovery} {a : Answer} (q : Recovery) (place : ℕ) → Readies r a q place → q.ending ≡ r.ending
-readies_ending q place (step.whole d loses e) = loses_ending d [] loses
-readies_ending q place (step.one_sent r id) = passed (slice_get r.gathered.kept r.sent) where
-  passed : (o : Option AtomicItem) → (with_pending (at r Sending) o).ending ≡ r.ending
-  passed (Some x) = refl
-  passed None = refl
-
-clears_ending : {r : Recovery} {a : Answer} (q : Recovery) (ids : List ℕ) → Clears r a q ids → q.ending ≡ r.ending
-clears_ending q ids (step.head_put r) = refl
-clears_ending q ids (step.one_tried r a) = refl
-
 tells_after : {r : Recovery} {a : Answer} {next : Step} (old : Option Claim) (cs : Calls) → KnowsAt r.stage old cs r → HeardAt r.stage cs r → AscendAt r.stage r
     → KeepsEnding r.stage r.ending → Fits (recovery_ask r) a → Comes r a next → NextTells r a ((recovery_ask r, a) ∷ cs) next
 tells_after old cs k heard up none fits (step.gives_old r a) = λ t e. inl e
@@ -184,12 +170,12 @@ tells_after {r = r} {a = a} old cs k heard up none fits (step.stops q t f) = λ 
 tells_after old cs k heard up none fits (step.finds_none r aims) = λ t e. absurd (cc (e))
 tells_after old cs k heard up none fits (step.reads_settled h reads e) = λ t kept. inl kept
 tells_after old cs k heard up none fits (step.reads_open h count reads e) = λ t kept. inl kept
-tells_after old cs k heard up none fits (step.deletes q id ids loses) = λ t e. inl (sym (loses_ending q (id ∷ ids) loses) ∙ e)
-tells_after old cs k heard up none fits (step.receives q loses other new) = λ t e. inl (sym (loses_ending q [] loses) ∙ e)
-tells_after old cs k heard up none fits (step.sends q place x ready is) = λ t e. inl (sym (readies_ending q place ready) ∙ e)
-tells_after old cs k heard up none fits (step.puts q place ready is) = λ t e. inl (sym (readies_ending q place ready) ∙ e)
-tells_after old cs k heard up none fits (step.clears q id ids c) = λ t e. inl (sym (clears_ending q (id ∷ ids) c) ∙ e)
-tells_after old cs k heard up none fits (step.sweeps q c) = λ t e. inl (sym (clears_ending q [] c) ∙ e)
+tells_after old cs k heard up none fits (step.deletes q id ids loses) = λ t e. inl (sym (loses_works loses).ending ∙ e)
+tells_after old cs k heard up none fits (step.receives q loses other new) = λ t e. inl (sym (loses_works loses).ending ∙ e)
+tells_after old cs k heard up none fits (step.sends q place x ready is) = λ t e. inl (sym (readies_works ready).ending ∙ e)
+tells_after old cs k heard up none fits (step.puts q place ready is) = λ t e. inl (sym (readies_works ready).ending ∙ e)
+tells_after old cs k heard up none fits (step.clears q id ids c) = λ t e. inl (sym (clears_works c).ending ∙ e)
+tells_after old cs k heard up none fits (step.sweeps q c) = λ t e. inl (sym (clears_works c).ending ∙ e)
 tells_after old cs k heard up none fits (step.clears_past r ms items id ids e are) = λ t kept. inl kept
 tells_after old cs k heard up none fits (step.opens r ms items e past is) = λ t kept. none_kept r.ending t none kept
 tells_after old cs k heard up none fits (step.closes r ms items e past is) = λ t kept. absurd (cc (kept))

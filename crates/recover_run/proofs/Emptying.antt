@@ -30,13 +30,13 @@ use Rattle.recover_run.specs.declared.stage.RecoverAnswer.TheVariants.{Opened, N
 use Rattle.recover_run.specs.declared.wanted.Wanted.{Wanted}
 use Rattle.recover_run.specs.Calls.{Calls}
 use Rattle.recover_run.specs.Emptying.{IsBeginning, HadMemory, HasNoLater, IsUptoEpoch, LeavesNone, deed_of}
-use Rattle.recover_run.specs.Ids.{rest_of}
-use Rattle.recover_run.specs.Recovery.{Recovery, new_recovery, recovery_ask, recovery_next, ask_at, next_at, under, delete_next, clearing, KeepsLeases}
+use Rattle.recover_run.specs.Recovery.{Recovery, Step, new_recovery, recovery_ask, recovery_next, ask_at, under, delete_next, KeepsLeases}
 use Rattle.recover_run.proofs.CalmCalls.{Moves, Shrunk, along, row_of_move, move_shrinks, shrunk_all, unmarked_since}
 use Rattle.recover_run.proofs.Knows.{KnowsAt, Put}
 use Rattle.recover_run.proofs.Meaning.{Knows, came_known}
 use Rattle.recover_run.proofs.Sweeping.{SweptAt, SweptNext, Delivers, Deletes, HeardAt, swept}
-use Rattle.recover_run.proofs.Outcomes.{comes}
+use Rattle.recover_run.proofs.Outcomes.{Comes, comes, comes_to}
+use Rattle.recover_run.proofs.Outcomes as step
 
 -- ---- what a calm call did to the queue
 
@@ -115,12 +115,14 @@ came_swept client aim old first h d r came memory calm alone begins now at =
     h d r came memory calm alone begins now at
 
 -- a deletion behind the put ends nothing
-clearing_goes : (r new : Recovery) (ids : List ℕ) (a : RecoverAnswer) → clearing r ids ≡ Ends new a → ⊥
-clearing_goes r new [] a e = absurd (cc)
-clearing_goes r new (id ∷ ids) a e = absurd (cc)
+abbrev NoEnd : Stage → Step → Type 0
+NoEnd stage (Ends n x) = stage ≡ Clearing → ⊥
+NoEnd stage next = Unit {0}
 
-ends_elsewhere : (st : Stage) (r new : Recovery) (a : Answer) (answer : RecoverAnswer) → next_at st r a ≡ Ends new answer → st ≡ Clearing → ⊥
-ends_elsewhere st r new a answer e is = clearing_goes r new (rest_of r.ids) answer (subst (λ s. next_at s r a ≡ Ends new answer) is e)
+ends_elsewhere : {r : Recovery} {a : Answer} {next : Step} → Comes r a next → NoEnd r.stage next
+ends_elsewhere (step.opens r ms items e none is) = λ at. absurd (cc (at))
+ends_elsewhere (step.ends r a answer e) = λ at. absurd (cc (at))
+ends_elsewhere c = tt
 
 last_empty : (client : ℕ) (aim : Aim) (old : Option Claim) (first : CloudState) (h : List Deed) (d : Deed) (r new : Recovery) (epoch past : ℕ)
     → Came recovery_ask (LeadsBy recovery_next) (new_recovery client aim old) h r → d.ask ≡ recovery_ask r → Makes d.who d.ask d.answer d.before d.after
@@ -134,7 +136,7 @@ last_empty client aim old first h d r new epoch past came asks made ends memory 
     let now : SweptAt r.stage (c.before.messages (queue.Atomic client)) r = came_swept client aim old first h d r came memory calm.1 alone begins c.before c.told in
     let is : SweptNext (last.messages (queue.Atomic client)) (Ends new (Opened epoch)) =
     subst (SweptNext (last.messages (queue.Atomic client))) ends
-    (step_swept client aim old (calls_of h) r d c.before last k m (λ e. absurd (ends_elsewhere r.stage r new d.answer (Opened epoch) ends e)) now) in
+    (step_swept client aim old (calls_of h) r d c.before last k m (λ e. absurd (ends_elsewhere (comes_to r d.answer (Ends new (Opened epoch)) ends) e)) now) in
     let same : past ≡ new.wanted.epoch = omega (arith, next, is.0) in
     let here : HasNoLater past (c.before.messages (queue.Atomic client)) =
     unmarked_since (IsUptoEpoch past) client aim old first upto h d r came calm.1 alone begins c.before c.told in

@@ -3,6 +3,7 @@ pub mod Outcomes
 pub mod Turns
 pub mod Causes
 pub mod End
+pub mod Failing
 pub mod Demands
 pub mod CalmCalls
 pub mod Emptying

@@ -2,41 +2,40 @@
 use Rattle.std.proofs.Common.{◌≡◌, ◌≤◌, ℕ, Bool, true, false, cond, List, length, Option, Some, None, refl, subst}
 use Rattle.std.specs.Prelude.{nat_lt, slice_get}
 use Rattle.std.specs.Option.{option_map}
-use Rattle.cloud_facts.specs.Words.{IsTree, Trouble, Entry, CloudState, Claim, Book, Store, at, store_of, StandsUnder}
+use Rattle.std.proofs.lemmas.Option.{same_Some}
+use Rattle.cloud_facts.specs.Words.{IsTree, Entry, CloudState, Claim, Book, Store, at, store_of, StandsUnder}
 use Rattle.session_facts.specs.Machines.Commits.Knows.{MayCommit}
 use Rattle.session_facts.proofs.Machines.Commits.Begins.{KnowsHeld}
-use Rattle.commit_run.specs.Draft.{Draft, new_draft}
-use Rattle.commit_run.specs.Run.{new_run, refused, long_walk, pending_target, begin_walks, run_ready}
+use Rattle.commit_run.specs.Run.{new_run, pending_target, long_pending, long_target, run_ready}
+use Rattle.commit_run.proofs.Outcomes as step
+use Rattle.commit_run.proofs.Outcomes.{Starts, starts, taken}
 use Rattle.session_facts.specs.Machines.CommitRuns.Knows.{KnowsDraft, KnowsRunNext}
 use Rattle.session_facts.proofs.Machines.CommitRuns.Plans.{empty_known}
 use Rattle.session_facts.proofs.Machines.CommitRuns.Refusals.{RefusesAtMost, ready_refuses}
 use Rattle.session_facts.proofs.Machines.CommitRuns.Leases.{RunLeaseStays, ready_lease}
-use Rattle.session_facts.proofs.Machines.CommitRuns.Nexts.{RunStep, LedTo, walk_first, walk_to_led, plan_on_led}
-use Rattle.commit_writes.specs.Writing.{waiting, with_attempt, with_home, is_spent}
-use Rattle.db_base.specs.declared.trouble.Counter.TheVariants as counter
-use Rattle.db_base.specs.declared.trouble.Trouble.TheVariants as trouble
+use Rattle.session_facts.proofs.Machines.CommitRuns.Nexts.{RunStep, LedTo, begins_led, plans_led}
+use Rattle.session_facts.specs.Machines.Openings.Client.{AreOfTrees}
 use Rattle.head_codec.specs.declared.lists.Pending.{Pending}
 use Rattle.cloud_facts.specs.Homes.Homes.{Part, Parts, HomesHold}
 use Rattle.cloud_facts.proofs.Homes.HomeLemmas.{keeps_part}
 use Rattle.cloud_facts.specs.Landings.Holding.{Holds}
 use Rattle.page_cache.specs.Cache.{Cache}
 use Rattle.recover_run.specs.declared.home.Home.{Home as Held}
-use Rattle.tree_walk.specs.Walk.{new_walk, walk_ready}
 use Rattle.txn_buffer.specs.Noted.{Noted}
 use Rattle.session_facts.specs.Machines.Walks.Caches.{KnowsCache}
-use Rattle.session_facts.specs.Machines.Walks.Knows.{MayStopWalk, WalkLeads}
 
-module _ (May : Trouble → Type 0) (st : Store) (now : ℕ) (h : Holds st) (parts : Parts) (session : ℕ) (homes : HomesHold st.tally now parts)
-    (begins : (tree : ℕ) (key : List ℕ) (fresh : Bool) (c : Cache) → IsTree tree → KnowsCache st c → WalkLeads st May (walk_ready (new_walk tree (Some key) fresh, c)))
-    (home : Held) (changes : List Noted) (c : Cache) (k : KnowsHeld st now home (parts session)) (may : MayCommit changes) (some : 1 ≤ length changes) (cache : KnowsCache st c) where
-  abbrev Led : RunStep → Type 0
-  Led step = LedTo st now parts session step
+-- the entry to which a long list leads is of a tree
+pub long_tree : (pending : List Pending) → AreOfTrees pending → (to : ℕ × List ℕ) → long_target pending ≡ Some to → IsTree to.0
+long_tree pending trees to aims = on (nat_lt long_pending (length pending)) (slice_get pending 0) refl aims
+  where
+    on : (b : Bool) (o : Option Pending) → slice_get pending 0 ≡ o → cond b (option_map pending_target o) None ≡ Some to → IsTree to.0
+    on true (Some e) is aims = subst (λ (t : ℕ × List ℕ). IsTree t.0) (same_Some (pending_target e) to aims) (trees e (0, is))
+    on true None is aims = absurd (cc)
+    on false o is aims = absurd (cc)
 
-  -- with the next attempt number
-  abbrev numbered : Draft
-  numbered = new_draft (with_home (waiting home changes) (with_attempt home))
-
-  known : KnowsDraft st now numbered (parts session)
+module _ (st : Store) (now : ℕ) (h : Holds st) (parts : Parts) (session : ℕ) (homes : HomesHold st.tally now parts) (home : Held) (changes : List Noted) (c : Cache)
+    (k : KnowsHeld st now home (parts session)) (may : MayCommit changes) (some : 1 ≤ length changes) (cache : KnowsCache st c) where
+  known : KnowsDraft st now (taken home changes) (parts session)
   known = record {
     taken = record { before = home.attempt; taken = refl; home = k };
     may = may;
@@ -45,26 +44,10 @@ module _ (May : Trouble → Type 0) (st : Store) (now : ℕ) (h : Holds st) (par
     plan = λ lasts. empty_known st.book changes;
   }
 
-  long_led : (b : Bool) → ((e : Pending) → slice_get home.head.pending 0 ≡ Some e → IsTree e.tree)
-      → Led (long_walk numbered c (cond b (option_map pending_target (slice_get home.head.pending 0)) None))
-  long_led false tree = plan_on_led May st now h parts session homes begins numbered c known cache
-  long_led true tree = on (slice_get home.head.pending 0) refl
-    where
-      on : (o : Option Pending) → slice_get home.head.pending 0 ≡ o → Led (long_walk numbered c (option_map pending_target o))
-      on (Some e) is = walk_to_led May st now h parts session homes begins true numbered c (pending_target e) known cache (tree e is)
-      on None is = plan_on_led May st now h parts session homes begins numbered c known cache
-
-  -- the first pending entry is of a tree
-  first_tree : (e : Pending) → slice_get home.head.pending 0 ≡ Some e → IsTree e.tree
-  first_tree e is = k.trees e (0, is)
-
-  pub ready_led : Led (run_ready (new_run home changes, c))
-  ready_led = on (is_spent home)
-    where
-      on : (b : Bool) → Led (cond b (refused (new_draft (waiting home changes)) c (trouble.Exhausted counter.Txn))
-          (begin_walks (new_draft (cond b (waiting home changes) (with_home (waiting home changes) (with_attempt home)))) c))
-      on true = record { part = parts session; homes = keeps_part st.tally now parts session (parts session) refl homes; knows = (k, cache) }
-      on false = long_led (nat_lt 256 (length home.head.pending)) first_tree
+  starts_led : {next : RunStep} → Starts home changes c next → LedTo st now parts session next
+  starts_led (step.spent e) = record { part = parts session; homes = keeps_part st.tally now parts session (parts session) refl homes; knows = (k, cache) }
+  starts_led (step.long to next left aims begins) = begins_led st now h parts session homes begins known cache (long_tree home.head.pending k.trees to aims)
+  starts_led (step.few next left none plans) = plans_led st now h parts session homes plans known cache
 
 -- ---- the whole
 
@@ -89,10 +72,5 @@ run_begins book order s stands now parts session homes home changes c k may some
   refuses = ready_refuses home changes c;
 })
   where
-    -- a walk makes a call before it comes to its end
-    begun : (tree : ℕ) (key : List ℕ) (fresh : Bool) (d : Cache) → IsTree tree → KnowsCache (store_of book order s) d
-        → WalkLeads (store_of book order s) MayStopWalk (walk_ready (new_walk tree (Some key) fresh, d))
-    begun = walk_first (store_of book order s) stands.holds
-
     led : LedTo (store_of book order s) now parts session (run_ready (new_run home changes, c))
-    led = ready_led MayStopWalk (store_of book order s) now stands.holds parts session homes begun home changes c k may some cache
+    led = starts_led (store_of book order s) now stands.holds parts session homes home changes c k may some cache (starts home changes c)

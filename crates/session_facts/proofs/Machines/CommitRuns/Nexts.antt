@@ -1,17 +1,17 @@
 -- Where the local work of a commit leads before its first write: to the next walk, to the first write, or to its end.
-use Rattle.std.proofs.Common.{◌≡◌, ℕ, Bool, true, false, cond, List, length, Option, Some, None, refl, sym, ap, subst, ◌∙◌}
-use Rattle.std.specs.Prelude.{slice_get}
-use Rattle.std.specs.Option.{option_map}
-use Rattle.cloud_facts.specs.Words.{IsTree, Trouble, CommitAnswer, ObjName, Leaf, Next, Goes, Ends, Stops, Store, IsIn}
+use Rattle.std.proofs.Common.{◌≡◌, ◌≤◌, ℕ, Bool, true, false, List, length, Option, Some, None, refl, sym, ap, subst, ◌∙◌}
+use Rattle.cloud_facts.specs.Words.{IsTree, Trouble, Answer, CommitAnswer, ObjName, Leaf, Next, Goes, Ends, Stops, Store, IsIn}
 use Rattle.session_facts.specs.Machines.Commits.Knows.{KnowsNext, ReachesPart}
-use Rattle.session_facts.proofs.Machines.Commits.Begins.{taken_left, routing_reaches}
-use Rattle.commit_run.specs.declared.hand.Hand.TheVariants.{Writes}
+use Rattle.session_facts.proofs.Machines.Commits.Begins.{taken_left, begun_reaches}
 use Rattle.commit_run.specs.Draft.{Draft, pruned_behind, planned, with_kept, leaf_noted, paged}
-use Rattle.commit_run.specs.Run.{Run, target_of, wrote, refused, troubled, held, walking, by_turn, begun_turn, walk_to, seek, plan_on, stale_at, is_stale, walk_stopped, walk_turned}
+use Rattle.commit_run.specs.Run.{Run, written, wrote, refused, held, walking}
+use Rattle.commit_run.proofs.Outcomes as step
+use Rattle.commit_run.proofs.Outcomes.{Begins, Plans, Behind, Comes, lacking, records_of}
 use Rattle.session_facts.specs.Machines.CommitRuns.Knows.{KnowsDraft, KnowsSeeking, KnowsHand, KnowsRunNext}
 use Rattle.session_facts.proofs.Machines.CommitRuns.Plans.{advanced_known, first_known, leaf_known}
 use Rattle.session_facts.proofs.Machines.CommitRuns.Prunes.{draft_prunes}
-use Rattle.commit_writes.specs.Writing.{Writing, routing}
+use Rattle.commit_writes.specs.Writing.{Writing, begun}
+use Rattle.db_base.specs.declared.trouble.Counter.TheVariants as counter
 use Rattle.db_base.specs.declared.trouble.Trouble.TheVariants as trouble
 use Rattle.cloud_facts.specs.Homes.Homes.{Part, Away, Parts, HomesHold}
 use Rattle.cloud_facts.proofs.Homes.HomeLemmas.{away_keeps, keeps_part}
@@ -19,11 +19,9 @@ use Rattle.cloud_facts.specs.Landings.Holding.{Holds}
 use Rattle.page_cache.specs.Cache.{Cache}
 use Rattle.page_cache.specs.Held.{leaf_at}
 use Rattle.route_plan.proofs.Places.{past_none}
-use Rattle.tree_walk.specs.Walk.{Walk, object_of, new_walk, walk_ready}
-use Rattle.txn_buffer.specs.Noted.{Noted}
+use Rattle.tree_walk.specs.Walk.{Walk, object_of, new_walk, walk_ready, walk_next}
 use Rattle.session_facts.specs.Machines.Walks.Caches.{KnowsCache}
-use Rattle.session_facts.specs.Machines.Walks.Knows.{KnowsWalk, IsAtSeenLeaf, MayStopWalk, WalkLeads}
-use Rattle.session_facts.proofs.Machines.Walks.Beside.{LeavesKnown, ready_leaves}
+use Rattle.session_facts.specs.Machines.Walks.Knows.{IsAtSeenLeaf, KnowsWalking, MayStopWalk, WalkLeads}
 use Rattle.session_facts.proofs.Machines.Walks.Outcome.{walk_begins}
 
 abbrev pub RunStep : Type 0
@@ -42,85 +40,54 @@ wrote_known st now part d c (Ends w a) cache k = (k, cache)
 wrote_known st now part d c (Stops w t) cache k = (k, cache)
 
 -- where a walk in hand is known
-pub held_known : (st : Store) (now : ℕ) (part : Part) (d : Draft) (w : Walk) (first : Bool) → KnowsSeeking st now d w part → KnowsHand (held first w) st now d part
+held_known : (st : Store) (now : ℕ) (part : Part) (d : Draft) (w : Walk) (first : Bool) → KnowsSeeking st now d w part → KnowsHand (held first w) st now d part
 held_known st now part d w true k = k
 held_known st now part d w false k = k
 
--- a walk begins with a call
-pub walk_first : (st : Store) → Holds st → (tree : ℕ) (key : List ℕ) (fresh : Bool) (c : Cache) → IsTree tree → KnowsCache st c
-    → WalkLeads st MayStopWalk (walk_ready (new_walk tree (Some key) fresh, c))
-walk_first st h tree key fresh c is cache =
-    let begun = walk_begins st h.chains tree (Some key) fresh c is cache in
-    subst (WalkLeads st MayStopWalk) (sym begun.1) begun.2
+-- ---- where a step leads
 
-module _ (May : Trouble → Type 0) (st : Store) (now : ℕ) (h : Holds st) (parts : Parts) (session : ℕ) (homes : HomesHold st.tally now parts)
-    (begins : (tree : ℕ) (key : List ℕ) (fresh : Bool) (c : Cache) → IsTree tree → KnowsCache st c → WalkLeads st May (walk_ready (new_walk tree (Some key) fresh, c))) where
+module _ (st : Store) (now : ℕ) (h : Holds st) (parts : Parts) (session : ℕ) (homes : HomesHold st.tally now parts) where
   abbrev part : Part
   part = parts session
 
   abbrev Led : RunStep → Type 0
-  Led step = LedTo st now parts session step
+  Led next = LedTo st now parts session next
 
   abbrev Known : Draft → Type 0
   Known d = KnowsDraft st now d part
 
   -- the part stays as it is
-  stays : (step : RunStep) → KnowsRunNext step st now part → Led step
-  stays step k = record { part = part; homes = keeps_part st.tally now parts session part refl homes; knows = k }
+  stays : (next : RunStep) → KnowsRunNext next st now part → Led next
+  stays next k = record { part = part; homes = keeps_part st.tally now parts session part refl homes; knows = k }
 
   -- nothing was committed
   refused_led : (d : Draft) (c : Cache) (t : Trouble) → Known d → KnowsCache st c → Led (refused d c t)
   refused_led d c t k cache = stays (refused d c t) (taken_left st now d.writes.home part k.taken, cache)
 
   -- memory ran out
-  pub stopped_led : (m : Run × Cache) (t : Trouble) → KnowsCache st m.1 → Led (Stops m t)
-  stopped_led m t cache = record { part = Away; homes = away_keeps st.tally now parts session homes; knows = (refl, cache) }
+  lacking_led : (d : Draft) (c : Cache) → KnowsCache st c → Led (lacking d c)
+  lacking_led d c cache = record { part = Away; homes = away_keeps st.tally now parts session homes; knows = (refl, cache) }
 
-  troubled_led : (d : Draft) (c : Cache) (t : Trouble) → Known d → KnowsCache st c → Led (troubled d c t)
-  troubled_led d c trouble.Memory k cache = stopped_led (record { draft = d; hand = Writes }, c) trouble.Memory cache
-  troubled_led d c t k cache = refused_led d c t k cache
+  -- behind a turn of a walk
+  behind : (d : Draft) (m : Walk × Cache) → Known d → KnowsWalking st m.0 m.1 → Known (pruned_behind d m.0 m.1)
+  behind d m k at = draft_prunes st now h part d k m.0 m.1 at.walk at.cache
 
-  -- a walk is in hand
-  walking_led : (first : Bool) (d : Draft) (w : Walk) (c : Cache) → Known d → KnowsWalk st w → KnowsCache st c → Led (walking first d w c)
-  walking_led first d w c k walk cache =
-      stays (walking first d w c) (record { hand = held_known st now part d w first (record { draft = k; walk = walk }); cache = cache })
+  walks_led : (first : Bool) (d : Draft) (m : Walk × Cache) → Known d → KnowsWalking st m.0 m.1 → Led (walking first (pruned_behind d m.0 m.1) m.0 m.1)
+  walks_led first d m k at =
+      stays (walking first (pruned_behind d m.0 m.1) m.0 m.1)
+      (record { hand = held_known st now part (pruned_behind d m.0 m.1) m.0 first (record { draft = behind d m k at; walk = at.walk }); cache = at.cache })
 
-  -- ---- a walk begins
+  -- ---- a walk begins, with a call
 
-  begun_led : (first : Bool) (d : Draft) (n : Next (Walk × Cache) ℕ) → Known d → LeavesKnown st n → WalkLeads st May n
-      → Led (by_turn (begun_turn first d) n)
-  begun_led first d (Goes m) k cache leads =
-      walking_led first (pruned_behind d m.0 m.1) m.0 m.1 (draft_prunes st now h part d k m.0 m.1 leads.walk cache)
-      leads.walk cache
-  begun_led first d (Ends m page) k cache leads =
-      walking_led first (pruned_behind d m.0 m.1) m.0 m.1 (draft_prunes st now h part d k m.0 m.1 leads.0.walk cache)
-      leads.0.walk cache
-  begun_led first d (Stops m t) k cache leads =
-      troubled_led (pruned_behind d m.0 m.1) m.1 t (draft_prunes st now h part d k m.0 m.1 leads.0.walk cache) cache
+  begins_so : (first : Bool) (c : Cache) (to : ℕ × List ℕ) → KnowsCache st c → IsTree to.0 → WalkLeads st (λ t. ⊥) (walk_ready (new_walk to.0 (Some to.1) first, c))
+  begins_so first c to cache tree = let goes = walk_begins st h.chains to.0 (Some to.1) first c tree cache in subst (WalkLeads st (λ t. ⊥)) (sym goes.1) goes.2
 
-  pub walk_to_led : (first : Bool) (d : Draft) (c : Cache) (to : ℕ × List ℕ) → Known d → KnowsCache st c → IsTree to.0 → Led (walk_to first d c to)
-  walk_to_led first d c to k cache tree =
-      begun_led first d (walk_ready (new_walk to.0 (Some to.1) first, c)) k (ready_leaves st (new_walk to.0 (Some to.1) first) c cache)
-      (begins to.0 to.1 first c tree cache)
+  pub begins_led : {first : Bool} {d : Draft} {c : Cache} {to : ℕ × List ℕ} {next : RunStep} → Begins first d c to next → Known d → KnowsCache st c → IsTree to.0 → Led next
+  begins_led {first = first} {d = d} {c = c} {to = to} (step.walks m e is aims) k cache tree = walks_led first d m k (subst (WalkLeads st (λ t. ⊥)) e (begins_so first c to cache tree))
+  begins_led {first = first} {c = c} {to = to} (step.stops m t e link other) k cache tree = absurd (subst (WalkLeads st (λ t. ⊥)) e (begins_so first c to cache tree)).1
+  begins_led {first = first} {c = c} {to = to} (step.lacks m e) k cache tree = absurd (subst (WalkLeads st (λ t. ⊥)) e (begins_so first c to cache tree)).1
 
   -- ---- from one walk to the next
-
-  -- the next change that needs a walk is of a tree
-  seek_led : (d : Draft) (c : Cache) → Known d → KnowsCache st c → (o : Option Noted) → slice_get d.writes.changes (length d.plan.pages) ≡ o
-      → Led (seek d c (option_map target_of o))
-  seek_led d c k cache (Some n) e =
-      walk_to_led false d c (target_of n) k cache (k.may.each n (length d.plan.pages, e)).0
-  seek_led d c k cache None e =
-      record {
-        part = written.part;
-        homes = written.homes;
-        knows = wrote_known st now written.part d c (routing d.writes d.plan.pages) cache written.knows;
-      }
-    where
-      written : ReachesPart st now parts session (KnowsNext (routing d.writes d.plan.pages))
-      written =
-          routing_reaches st now parts session d.writes d.plan.pages k.taken k.may k.some k.none (past_none d.writes.changes (length d.plan.pages) e)
-          (λ lasts. (k.plan lasts).pages) homes h.leaves
 
   planned_known : (d : Draft) → Known d → Known (planned d)
   planned_known d k = record {
@@ -131,10 +98,22 @@ module _ (May : Trouble → Type 0) (st : Store) (now : ℕ) (h : Holds st) (par
     plan = λ lasts. advanced_known st.book d.writes.changes d.plan d.writes.home.head.pending (k.plan lasts);
   }
 
-  pub plan_on_led : (d : Draft) (c : Cache) → Known d → KnowsCache st c → Led (plan_on d c)
-  plan_on_led d c k cache = seek_led (planned d) c (planned_known d k) cache (slice_get d.writes.changes (length (planned d).plan.pages)) refl
+  -- the first record is written
+  writes_led : (d : Draft) (c : Cache) (w : Writing) → Known d → KnowsCache st c → length d.writes.changes ≤ length d.plan.pages → begun d.writes (records_of d) ≡ Goes w → Led (Goes (written d w, c))
+  writes_led d c w k cache paged e =
+      let to =
+      subst (λ (n : Next Writing CommitAnswer). ReachesPart st now parts session (KnowsNext n)) e
+      (begun_reaches st now parts session d.writes d.plan.pages k.taken k.may k.some k.none paged (λ lasts. (k.plan lasts).pages) homes h.leaves) in
+      record { part = to.part; homes = to.homes; knows = wrote_known st now to.part d c (Goes w) cache to.knows }
 
-  -- ---- a turn of a walk
+  -- the next change that needs a walk is of a tree
+  pub plans_led : {d : Draft} {c : Cache} {next : RunStep} → Plans d c next → Known d → KnowsCache st c → Led next
+  plans_led {d = d} (step.seeks n next is begins) k cache = begins_led begins (planned_known d k) cache (k.may.each n (length (planned d).plan.pages, is)).0
+  plans_led {d = d} {c = c} (step.full none over) k cache = refused_led (planned d) c (trouble.Exhausted counter.Number) (planned_known d k) cache
+  plans_led {d = d} {c = c} (step.writes w none fits e) k cache =
+      writes_led (planned d) c w (planned_known d k) cache (past_none d.writes.changes (length (planned d).plan.pages) none) e
+
+  -- ---- behind a turn of a walk
 
   -- page 1 for a stale walk
   paged_known : (d : Draft) → Known d → Known (paged d 1)
@@ -145,17 +124,6 @@ module _ (May : Trouble → Type 0) (st : Store) (now : ℕ) (h : Holds st) (par
     none = k.none;
     plan = λ lasts. first_known st d.writes.changes d.plan h.chains k.may (k.plan lasts);
   }
-
-  stale_led : (first : Bool) (d : Draft) (c : Cache) → Known d → KnowsCache st c → Led (stale_at first d c)
-  stale_led true d c k cache = plan_on_led d c k cache
-  stale_led false d c k cache = plan_on_led (paged d 1) c (paged_known d k) cache
-
-  walk_stopped_led : (first : Bool) (d : Draft) (c : Cache) (t : Trouble) → Known d → KnowsCache st c → Led (walk_stopped first d c t)
-  walk_stopped_led first d c t k cache = on (is_stale t)
-    where
-      on : (b : Bool) → Led (cond b (stale_at first d c) (troubled d c t))
-      on true = stale_led first d c k cache
-      on false = troubled_led d c t k cache
 
   -- the leaf at which a walk ended
   noted_known : (d : Draft) (w : Walk) (c : Cache) (page : ℕ) → Known d → IsAtSeenLeaf st w c page → Known (leaf_noted d w c page)
@@ -178,14 +146,18 @@ module _ (May : Trouble → Type 0) (st : Store) (now : ℕ) (h : Holds st) (par
             (subst (λ (l : Leaf). IsIn (st.book.chain w.tree 0) (record { low = l.low; page = page })) one seen.linked) (k.plan lasts);
       }
 
-  pub turned_led : (first : Bool) (d : Draft) (n : Next (Walk × Cache) ℕ) → Known d → LeavesKnown st n → WalkLeads st May n
-      → Led (by_turn (walk_turned first d) n)
-  turned_led first d (Goes m) k cache leads =
-      walking_led first (pruned_behind d m.0 m.1) m.0 m.1 (draft_prunes st now h part d k m.0 m.1 leads.walk cache)
-      leads.walk cache
-  turned_led first d (Ends m page) k cache leads =
-      plan_on_led (leaf_noted (pruned_behind d m.0 m.1) m.0 m.1 page) m.1
-      (noted_known (pruned_behind d m.0 m.1) m.0 m.1 page (draft_prunes st now h part d k m.0 m.1 leads.0.walk cache)
-      leads.1) cache
-  turned_led first d (Stops m t) k cache leads =
-      walk_stopped_led first (pruned_behind d m.0 m.1) m.1 t (draft_prunes st now h part d k m.0 m.1 leads.0.walk cache) cache
+  behind_known : {d e : Draft} {w : Walk} {c q : Cache} {a : Answer} {first : Bool} → Behind d w c a first e q → Known d → WalkLeads st MayStopWalk (walk_next (w, c) a)
+      → Known e × KnowsCache st q
+  behind_known {d = d} (step.at_leaf first m page e aims) k leads =
+      let to = subst (WalkLeads st MayStopWalk) e leads in (noted_known (pruned_behind d m.0 m.1) m.0 m.1 page (behind d m k to.0) to.1, to.0.cache)
+  behind_known {d = d} (step.at_stale m t e stale) k leads =
+      let to = subst (WalkLeads st MayStopWalk) e leads in (paged_known (pruned_behind d m.0 m.1) (behind d m k to.0), to.0.cache)
+  behind_known {d = d} (step.passed_over m t e stale) k leads = let to = subst (WalkLeads st MayStopWalk) e leads in (behind d m k to.0, to.0.cache)
+
+  pub turn_led : {d : Draft} {w : Walk} {c : Cache} {a : Answer} {first : Bool} {next : RunStep} → Comes d w c a first next → Known d → WalkLeads st MayStopWalk (walk_next (w, c) a)
+      → Led next
+  turn_led {d = d} {first = first} (step.goes m e is aims) k leads = walks_led first d m k (subst (WalkLeads st MayStopWalk) e leads)
+  turn_led {d = d} (step.ends m t e fresh other) k leads =
+      let to = subst (WalkLeads st MayStopWalk) e leads in refused_led (pruned_behind d m.0 m.1) m.1 t (behind d m k to.0) to.0.cache
+  turn_led {d = d} (step.lacks m e) k leads = lacking_led (pruned_behind d m.0 m.1) m.1 (subst (WalkLeads st MayStopWalk) e leads).0.cache
+  turn_led (step.plans e q next turned plans) k leads = let to = behind_known turned k leads in plans_led plans to.0 to.1

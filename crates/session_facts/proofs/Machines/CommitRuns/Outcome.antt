@@ -9,21 +9,20 @@ use Rattle.session_facts.proofs.Machines.Commits.Outcome.{commit_outcome}
 use Rattle.commit_run.specs.declared.hand.Hand.{Hand}
 use Rattle.commit_run.specs.declared.hand.Hand.TheVariants.{Writes, First, Change}
 use Rattle.commit_run.specs.Draft.{Draft}
+use Rattle.commit_run.proofs.Outcomes.{comes}
 use Rattle.commit_run.specs.Run.{Run, home_of, ask_at, asks, wrote, walked, next_at, run_next}
 use Rattle.session_facts.specs.Machines.CommitRuns.Audited.{noted_in, run_note}
 use Rattle.commit_run.specs.Sound.{IsSoundAt, IsSoundRun}
 use Rattle.session_facts.specs.Machines.CommitRuns.Knows.{KnowsSeeking, KnowsHand, KnowsRun, KnowsRunNext}
-use Rattle.session_facts.proofs.Machines.CommitRuns.Nexts.{LedTo, walk_first, wrote_known, turned_led}
+use Rattle.session_facts.proofs.Machines.CommitRuns.Nexts.{LedTo, wrote_known, turn_led}
 use Rattle.commit_writes.specs.Writing.{writing_ask, writing_next}
 use Rattle.cloud_facts.specs.Homes.Homes.{Part, Parts}
 use Rattle.history.specs.Audited.{Audited}
 use Rattle.page_cache.specs.Cache.{Cache}
-use Rattle.tree_walk.specs.Walk.{Walk, object_of, walk_ask, walk_next}
+use Rattle.tree_walk.specs.Walk.{Walk, walk_ask}
 use Rattle.session_facts.specs.Machines.Walks.Caches.{KnowsCache}
-use Rattle.session_facts.specs.Machines.Walks.Knows.{MayStopWalk}
 use Rattle.session_facts.proofs.Machines.Walks.Caches.{cache_grows}
-use Rattle.session_facts.proofs.Machines.Walks.Beside.{turn_leaves}
-use Rattle.session_facts.proofs.Machines.Walks.Outcome.{call_answers, walk_goes}
+use Rattle.session_facts.proofs.Machines.Walks.Outcome.{walk_goes}
 
 module _ (who : Caller) (book : Book) (order : List Entry) (s t : CloudState) (parts : Parts) (reply : Answer) (d : Draft) (c : Cache)
     (setting : Setting book order s t.now parts who.session (d.writes.home.lease ∷ [])) (cache : KnowsCache (store_of book order s) c) where
@@ -62,8 +61,7 @@ module _ (who : Caller) (book : Book) (order : List Entry) (s t : CloudState) (p
     where
       led : LedTo st t.now parts who.session (walked first d w c reply)
       led =
-          turned_led MayStopWalk st t.now setting.cloud.holds parts who.session setting.homes (walk_first st setting.cloud.holds) first d (walk_next (w, c) reply) k.draft
-          (turn_leaves st w c reply cache (call_answers book order s setting.cloud who (object_of w) reply t call))
+          turn_led st t.now setting.cloud.holds parts who.session setting.homes (comes d w c reply first) k.draft
           (walk_goes book order s setting.cloud who w c reply t call (record { walk = k.walk; cache = cache }))
 
   outcome_at : (hand : Hand) → KnowsHand hand st t.now d (parts who.session) → IsSoundAt hand d.writes → IsCall who (ask_at hand d.writes) reply s t

@@ -1,8 +1,5 @@
 -- Why a commit ends with nothing committed, or stays open: while its lease lasts its walks know their way, and no object is damaged.
-use Rattle.std.proofs.Common.{◌≡◌, ◌∙◌, ℕ, Bool, true, false, cond, List, length, Option, Some, None, Result, Ok, Err, refl, sym, subst}
-use Rattle.std.specs.Prelude.{nat_lt, slice_get}
-use Rattle.std.specs.Option.{option_map}
-use Rattle.std.proofs.lemmas.Option.{same_Some}
+use Rattle.std.proofs.Common.{◌≡◌, ◌∙◌, ℕ, Bool, true, false, List, length, Option, Some, None, Result, Ok, Err, refl, sym, subst}
 use Rattle.cloud_facts.specs.Words.{IsTree, Trouble, CommitAnswer, ObjName, Entry, Leaf, Tree, Answer, CloudState, Caller, Next, Goes, Ends, Stops, done_of, sent_of, Book, Store, store_of, IsCall, StandsUnder}
 use Rattle.cloud_trait.specs.declared.answer.Answer.TheVariants.{Got, Sent, Received, Listed, Done, Given, Held, Renewed, Late, Failed, Memory}
 use Rattle.cloud_trait.specs.Views.{trouble_of}
@@ -12,12 +9,13 @@ use Rattle.session_facts.proofs.Machines.Commits.Begins.{KnowsHeld}
 use Rattle.commit_run.specs.declared.hand.Hand.{Hand}
 use Rattle.commit_run.specs.declared.hand.Hand.TheVariants.{Writes, First, Change}
 use Rattle.commit_run.specs.Draft.{Draft, pruned_by_root, pruned_by_kept, pruned_with, planned}
-use Rattle.commit_run.specs.Run.{Run, new_run, asks, ask_at, wrote, is_stale, pending_target, walked, run_ready, next_at, run_next}
+use Rattle.commit_run.specs.Run.{Run, new_run, asks, ask_at, wrote, is_stale, walked, run_ready, next_at, run_next}
 use Rattle.commit_run.proofs.Outcomes.{Begins, Plans, Behind, Comes, comes, Starts, starts, used_kept}
 use Rattle.commit_run.proofs.Outcomes as run
 use Rattle.session_facts.specs.Machines.CommitRuns.Knows.{KnowsSeeking, KnowsHand, KnowsRun}
 use Rattle.session_facts.specs.Machines.Openings.Client.{AreCounted}
 use Rattle.session_facts.specs.Machines.CommitRuns.Stops.{MayStopCommit, EndsBy}
+use Rattle.session_facts.proofs.Machines.CommitRuns.Begins.{long_tree}
 use Rattle.session_facts.proofs.Machines.CommitRuns.Nexts.{RunStep}
 use Rattle.commit_writes.specs.declared.stage.Stage.{Stage}
 use Rattle.commit_writes.specs.declared.stage.Stage.TheVariants.{Waiting, Logging, Opening, Sending, Settling, Deleting, Finished}
@@ -28,7 +26,6 @@ use Rattle.db_base.specs.declared.names.ObjName.TheVariants as object
 use Rattle.db_base.specs.declared.trouble.Counter.TheVariants as counter
 use Rattle.db_base.specs.declared.trouble.Trouble.TheVariants as trouble
 use Rattle.head_codec.specs.declared.lists.QueueCount.{QueueCount}
-use Rattle.head_codec.specs.declared.lists.Pending.{Pending}
 use Rattle.cloud_facts.specs.Homes.Homes.{Part}
 use Rattle.cloud_facts.specs.Landings.Holding.{Holds}
 use Rattle.page_cache.specs.Cache.{Cache}
@@ -200,16 +197,10 @@ module _ (May : Trouble → Type 0) (txn : May (trouble.Exhausted counter.Txn)) 
       pass : MayPass home.head.counters
       pass = number home.client home.head.counters k.counted
 
-      -- a long list of pending entries is pruned by the first, which is of a tree
-      first_tree : (b : Bool) (o : Option Pending) (to : ℕ × List ℕ) → slice_get home.head.pending 0 ≡ o → cond b (option_map pending_target o) None ≡ Some to → IsTree to.0
-      first_tree true (Some e) to is aims = subst (λ (t : ℕ × List ℕ). IsTree t.0) (same_Some (pending_target e) to aims) (k.trees e (0, is))
-      first_tree true None to is aims = absurd (cc)
-      first_tree false o to is aims = absurd (cc)
-
       starts_well : {next : RunStep} → Starts home changes c next → EndsWell May next
       starts_well (run.spent e) = txn
       starts_well (run.long to next left aims begins) =
-          begins_well (store_of book order s) stands.holds begins (first_tree (nat_lt 256 (length home.head.pending)) (slice_get home.head.pending 0) to refl aims) cache
+          begins_well (store_of book order s) stands.holds begins (long_tree home.head.pending k.trees to aims) cache
       starts_well (run.few next left none plans) = plans_well (store_of book order s) stands.holds plans may pass cache
 
       pub ready_ends_by : EndsWell May (run_ready (new_run home changes, c))

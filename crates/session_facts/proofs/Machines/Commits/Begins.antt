@@ -1,15 +1,14 @@
 -- A commit begins to write.
-use Rattle.std.proofs.Common.{◌≡◌, ◌≤◌, ℕ, Bool, true, false, cond, List, [], length, refl, sym, subst, ◌∙◌, arith}
+use Rattle.std.proofs.Common.{◌≡◌, ◌≤◌, ℕ, List, [], length, refl, sym, subst, ◌∙◌, arith}
 use Rattle.cloud_facts.specs.Calls.Acting.{KnowsHome}
 use Rattle.session_facts.specs.Machines.Openings.Client.{KnowsClient}
 use Rattle.cloud_facts.specs.Words.{AtomicRec, Lasts, Store, at, IsIn}
 use Rattle.session_facts.specs.Machines.Commits.Knows.{MayCommit, AreLeavesFor, attempt_of, IsOfAttempt, Routes, KnowsTaken, KnowsNext, ReachesPart}
-use Rattle.session_facts.proofs.Machines.Commits.Nexts.{Known, Stands, part_next, next_homes, logs_at}
-use Rattle.commit_writes.specs.Writing.{Writing, routed_of, passes, not_committed, begun, routing}
-use Rattle.db_base.specs.declared.trouble.Counter.TheVariants as counter
-use Rattle.db_base.specs.declared.trouble.Trouble.TheVariants as trouble
+use Rattle.session_facts.proofs.Machines.Commits.Nexts.{Known, Stands, part_next, next_homes, logs_on}
+use Rattle.commit_writes.specs.Writing.{Writing, routed_of, begun}
+use Rattle.commit_writes.proofs.Outcomes.{begins}
 use Rattle.cloud_facts.specs.Homes.Homes.{Home, Part, AtHome, Parts, HomeHolds, PartHolds, HomesHold}
-use Rattle.cloud_facts.proofs.Homes.HomeLemmas.{begins_keeps, keeps_part}
+use Rattle.cloud_facts.proofs.Homes.HomeLemmas.{begins_keeps}
 use Rattle.cloud_facts.specs.Lefts.Left.{WasLogged, Leaves}
 use Rattle.recover_run.specs.declared.home.Home.{Home as Held}
 use Rattle.cloud_facts.specs.Book.Messages.{IsLogMessage}
@@ -51,9 +50,6 @@ module _ (st : Store) (now : ℕ) (parts : Parts) (session : ℕ) (w : Writing) 
 
   abbrev recs : List AtomicRec
   recs = routed_of w.home w.changes pages
-
-  abbrev with_records : Writing
-  with_records = record w { records = recs }
 
   abbrev began : Home
   began = record t.home.at.home { attempt = w.home.attempt; sent = []; needed = [] }
@@ -103,20 +99,16 @@ module _ (st : Store) (now : ℕ) (parts : Parts) (session : ℕ) (w : Writing) 
 
   begun_known : Known (begun w recs) st now (AtHome began)
   begun_known =
-      logs_at st now with_records (AtHome began) began stands 0 routes (record { sent = refl; needed = refl })
-      (λ id is. absurd (in_none w.ids id none is))
+      logs_on st now (AtHome began) (begins w recs) stands
+      (record { routes = routes; has = record { sent = refl; needed = refl }; messages = λ id is. absurd (in_none w.ids id none is) })
 
   begun_homes : HomesHold st.tally now (at session (AtHome began) parts)
   begun_homes = begins_keeps st.tally now parts session k.home w.home.attempt k.part_is (let before = k.begun in let taken = t.taken in omega (arith, before, taken)) homes
 
-  -- the first record is sent, or nothing is written where a number is used up
-  pub routing_reaches : ReachesPart st now parts session (KnowsNext (routing w pages))
-  routing_reaches = on (passes recs)
-    where
-      on : (b : Bool) → ReachesPart st now parts session (KnowsNext (cond b (not_committed w (trouble.Exhausted counter.Number)) (begun w recs)))
-      on true = record { part = parts session; homes = keeps_part st.tally now parts session (parts session) refl homes; knows = taken_left st now w.home (parts session) t }
-      on false = record {
-        part = part_next (begun w recs) (AtHome began);
-        homes = next_homes st.tally now parts session (AtHome began) (begun w recs) begun_homes;
-        knows = begun_known;
-      }
+  -- the first record is sent
+  pub begun_reaches : ReachesPart st now parts session (KnowsNext (begun w recs))
+  begun_reaches = record {
+    part = part_next (begun w recs) (AtHome began);
+    homes = next_homes st.tally now parts session (AtHome began) (begun w recs) begun_homes;
+    knows = begun_known;
+  }

@@ -1,8 +1,8 @@
 -- What a deletion of an ATOMIC message leaves.
-use Rattle.std.proofs.Common.{◌≡◌, ◌+◌, ◌⊎◌, inl, inr, ℕ, List, [], ◌∷◌, Some, refl}
+use Rattle.std.proofs.Common.{◌≡◌, ◌⊎◌, inl, inr, ℕ, List, [], ◌∷◌, Some, refl}
 use Rattle.std.specs.Prelude.{slice_get}
 use Rattle.cloud_facts.specs.Calls.Acting.{Outcome}
-use Rattle.cloud_facts.specs.Words.{Entry, Answer, CloudState, called, Caller, Ask, Delete, done_of, Book, Store, at, store_of, IsCall}
+use Rattle.cloud_facts.specs.Words.{Entry, Answer, CloudState, called, Caller, Ask, Delete, Book, Store, at, store_of, IsCall}
 use Rattle.cloud_facts.proofs.Calls.Calls.{landed_or_not}
 use Rattle.cloud_facts.proofs.Calls.Outcomes.{stays, other_landed}
 use Rattle.cloud_trait.specs.Ask.{Lands}
@@ -10,10 +10,11 @@ use Rattle.session_facts.specs.Machines.Commits.Knows.{attempt_of, Deletes, Know
 use Rattle.session_facts.specs.Machines.Commits.Audited.{noted_at}
 use Rattle.session_facts.proofs.Machines.Commits.Records.{messages_stay}
 use Rattle.session_facts.proofs.Machines.Commits.Logged.{marks, spared}
-use Rattle.session_facts.proofs.Machines.Commits.Nexts.{WriteStep, part_next, next_homes, deletes_at, deleted_known}
+use Rattle.session_facts.proofs.Machines.Commits.Nexts.{WriteStep, part_next, next_homes, leads}
 use Rattle.session_facts.proofs.Machines.Commits.Ready.{Ready, homes}
 use Rattle.commit_writes.specs.declared.stage.Stage.TheVariants.{Deleting}
-use Rattle.commit_writes.specs.Writing.{Writing, next_at}
+use Rattle.commit_writes.specs.Writing.{Writing, writing_next}
+use Rattle.commit_writes.proofs.Outcomes.{comes, at as staged}
 use Rattle.db_base.specs.declared.names.QueueName.TheVariants.{Atomic}
 use Rattle.cloud_facts.specs.Homes.Homes.{Home, Part, Parts, HomesHold}
 use Rattle.cloud_facts.proofs.Homes.HomeLemmas.{marked_keeps, keeps_part}
@@ -21,8 +22,12 @@ use Rattle.cloud_facts.specs.Landings.Landing as landing
 use Rattle.cloud_facts.specs.Book.Effects.{after_log_mark}
 use Rattle.cloud_facts.proofs.Book.GrowthLemmas.{log_mark_grows}
 
-module _ (who : Caller) (book : Book) (order : List Entry) (s t : CloudState) (parts : Parts) (w : Writing) (reply : Answer) (part : Part) (g : Home)
-    (ready : Ready who book order s t.now parts w part g) (a : Deletes (store_of book order s) t.now w g) (id : ℕ) (there : slice_get w.ids w.place ≡ Some id) where
+module _ (who : Caller) (book : Book) (order : List Entry) (s t : CloudState) (parts : Parts) (v : Writing) (reply : Answer) (part : Part) (g : Home)
+    (ready : Ready who book order s t.now parts (staged v Deleting) part g) (a : Deletes (store_of book order s) t.now (staged v Deleting) g) (id : ℕ)
+    (there : slice_get v.ids v.place ≡ Some id) where
+  abbrev w : Writing
+  w = staged v Deleting
+
   abbrev st : Store
   st = store_of book order s
 
@@ -30,7 +35,7 @@ module _ (who : Caller) (book : Book) (order : List Entry) (s t : CloudState) (p
   client = w.home.client
 
   abbrev step : WriteStep
-  step = next_at Deleting w reply
+  step = writing_next w reply
 
   abbrev ask : Ask
   ask = Delete (Atomic client) id
@@ -67,9 +72,9 @@ module _ (who : Caller) (book : Book) (order : List Entry) (s t : CloudState) (p
       on (inl e) =
           stays who book order s t parts (w.home.lease ∷ []) ask (noted_at Deleting w ask) (KnowsNext step) e (ready.setting).cloud (part_next step part)
           (next_homes st.tally t.now parts who.session part step (homes who book order s t.now parts w part g ready))
-          (deleted_known st t.now w part (done_of reply) (deletes_at st t.now w part g ready.stands (w.place + 1) a))
+          (leads st t.now part (comes w reply) ready.stands a)
       on (inr lands) =
           other_landed who book order s t parts (w.home.lease ∷ []) ask (noted_at Deleting w ask) (KnowsNext step) su lands (ready.setting).cloud (landing.marks_log client id (marks st t.now w g a id there)) tt tt tt
           (part_next step part) (next_homes su.tally t.now parts who.session part step after_homes)
-          (deleted_known su t.now w part (done_of reply) (deletes_at su t.now w part g ready.stands (w.place + 1) still))
+          (leads su t.now part (comes w reply) ready.stands still)
           (λ look new. refl) refl

@@ -1,13 +1,16 @@
 -- What a commit knows where an answer leads.
-use Rattle.std.proofs.Common.{◌≡◌, ◌≤◌, ◌+◌, ℕ, List, [], ◌∷◌, ◌++◌, take, Option, Some, None, Result, Ok, Err, refl, sym, ap, subst, ◌∙◌, arith}
-use Rattle.std.specs.Prelude.{slice_get}
+use Rattle.std.proofs.Common.{◌≡◌, ◌≤◌, ◌+◌, ℕ, List, Ok, Err, refl, sym, ap, subst, ◌∙◌, arith}
 use Rattle.cloud_facts.specs.Calls.Acting.{IsPruned}
 use Rattle.session_facts.specs.Machines.Openings.Client.{AreOfTrees, AreOfRecords, AreCounted, KnowsClient}
 use Rattle.cloud_facts.proofs.Calls.OthersLemmas.{pruned_itself}
-use Rattle.cloud_facts.specs.Words.{IsClient, Trouble, CommitAnswer, AtomicRec, Head, Lasts, Next, Goes, Ends, Stops, Store, at}
-use Rattle.session_facts.specs.Machines.Commits.Knows.{MayCommit, Attempt, attempt_of, AreMessagesOf, Routes, HasSent, HasOpened, HasCommitted, AreSentOn, Deletes, IsHomeOf, KnowsCommit, KnowsNext}
+use Rattle.cloud_facts.specs.Words.{IsClient, Answer, CommitAnswer, Head, Lasts, Next, Goes, Ends, Stops, Store, at, sent_of, done_of}
+use Rattle.session_facts.specs.Machines.Commits.Knows.{MayCommit, Attempt, attempt_of, LogsNext, SendsNext, Deletes, IsHomeOf, KnowsCommitAt, KnowsCommit, KnowsNext}
 use Rattle.session_facts.proofs.Machines.Commits.Records.{take_all}
-use Rattle.commit_writes.specs.Writing.{Writing, before_of, restored, log_or_open, log_at, send_or_settle, send_at, delete_or_end, delete_at, not_opened, logged_by, opened_by, sent_by, settled_by, deleted_by}
+use Rattle.commit_writes.specs.declared.stage.Stage.{Stage}
+use Rattle.commit_writes.specs.declared.stage.Stage.TheVariants.{Waiting, Logging, Opening, Sending, Settling, Deleting, Finished}
+use Rattle.commit_writes.specs.Writing.{Writing, before_of, restored}
+use Rattle.commit_writes.proofs.Outcomes.{logged, placed, Logs, Posts, Clears, Comes}
+use Rattle.commit_writes.proofs.Outcomes as step
 use Rattle.db_base.specs.declared.names.Lock.TheVariants as lock
 use Rattle.db_base.specs.declared.trouble.CommitAnswer.TheVariants.{Committed, NotCommitted, InDoubt, CommittedOpen}
 use Rattle.db_base.specs.declared.trouble.Trouble.TheVariants as trouble
@@ -92,124 +95,71 @@ knows_home u now x changes part g head stands epoch within settled newest trees 
   counted = counted;
 }
 
--- ---- the next call
+-- ---- where a step leads
 
-module _ (u : Store) (now : ℕ) (w : Writing) (part : Part) (g : Home) (stands : Stands (attempt_of w) w.changes part g) where
-  -- the next record is sent to the ATOMIC queue, or all were
-  log_next : (n : ℕ) (o : Option AtomicRec) → Routes u now (attempt_of w) w.changes w.records w.home.head → HasSent g (take n w.records) → AreMessagesOf u (attempt_of w) w.ids
-      → slice_get w.records n ≡ o → Known (log_or_open (record w { place = n }) o) u now part
-  log_next n (Some r) routes has messages e = record {
-    client = stands.client;
-    lock = stands.lock;
-    changes = stands.changes_may;
-    home = g;
-    at_home = stands.home;
-    at = record { routes = routes; has = has; messages = messages };
-  }
-  log_next n None routes has messages e = record {
-    client = stands.client;
-    lock = stands.lock;
-    changes = stands.changes_may;
-    home = g;
-    at_home = stands.home;
-    at = record { base = w.home.head; routes = routes; head = refl; before = refl; has = record { sent = has.sent ∙ all; needed = has.needed ∙ all }; messages = messages };
-  }
-    where
-      all : take n w.records ≡ w.records
-      all = take_all n w.records (past_none w.records n e)
+module _ (u : Store) (now : ℕ) (part : Part) where
+  -- a call of the commit is in hand
+  in_hand : (w : Writing) {g : Home} → Stands (attempt_of w) w.changes part g → KnowsCommitAt w.stage u now w g → KnowsCommit u now w part
+  in_hand w {g = g} stands at = record { client = stands.client; lock = stands.lock; changes = stands.changes_may; home = g; at_home = stands.home; at = at }
 
-  pub logs_at : (n : ℕ) → Routes u now (attempt_of w) w.changes w.records w.home.head → HasSent g (take n w.records) → AreMessagesOf u (attempt_of w) w.ids
-      → Known (log_at w n) u now part
-  logs_at n routes has messages = log_next n (slice_get w.records n) routes has messages refl
-
-  -- the next record is sent on, or all were
-  send_next : (n : ℕ) (o : Option AtomicRec) → HasOpened u now (attempt_of w) w.records w.home.head → HasCommitted u.book.log (attempt_of w) w.changes → AreSentOn u w.records n → AreMessagesOf u (attempt_of w) w.ids
-      → slice_get w.records n ≡ o → Known (send_or_settle (record w { place = n }) o) u now part
-  send_next n (Some r) has committed sent messages e = record {
-    client = stands.client;
-    lock = stands.lock;
-    changes = stands.changes_may;
-    home = g;
-    at_home = stands.home;
-    at = record { has = has; committed = committed; sent = sent; messages = messages };
-  }
-  send_next n None has committed sent messages e = record {
-    client = stands.client;
-    lock = stands.lock;
-    changes = stands.changes_may;
-    home = g;
-    at_home = stands.home;
-    at = record {
-      opened = w.home.head;
-      has = has;
-      committed = committed;
-      head = refl;
-      sent = λ place r less there. let past = past_none w.records n e in sent place r (omega (arith, less, past)) there;
-      messages = messages;
-    };
-  }
-
-  pub sends_at : (n : ℕ) → HasOpened u now (attempt_of w) w.records w.home.head → HasCommitted u.book.log (attempt_of w) w.changes → AreSentOn u w.records n
-      → AreMessagesOf u (attempt_of w) w.ids → Known (send_at w n) u now part
-  sends_at n has committed sent messages = send_next n (slice_get w.records n) has committed sent messages refl
-
-  -- the next message is deleted, or all were
-  delete_next : (n : ℕ) (o : Option ℕ) → Deletes u now w g → Known (delete_or_end (record w { place = n }) o) u now part
-  delete_next n (Some id) a = record {
-    client = stands.client;
-    lock = stands.lock;
-    changes = stands.changes_may;
-    home = g;
-    at_home = stands.home;
-    at = record { committed = a.committed; settled = a.settled; txn_is = a.txn_is; past = a.past; newest = a.newest; trees = a.trees; of_records = a.of_records; counted = a.counted; needed = a.needed; messages = a.messages };
-  }
-  delete_next n None a =
-      knows_home u now (attempt_of w) w.changes part g w.home.head stands refl (let e = a.txn_is in omega (arith, e)) a.settled
-      (λ lasts. subst (λ (h : Head). IsPruned u.tally w.home.client h w.home.head) (sym (a.newest lasts)) (pruned_itself u.tally w.home.client w.home.head)) a.trees a.of_records a.counted
-
-  pub deletes_at : (n : ℕ) → Deletes u now w g → Known (delete_at w n) u now part
-  deletes_at n a = delete_next n (slice_get w.ids n) a
-
--- ---- by the answer
-
-module _ (u : Store) (now : ℕ) (w : Writing) (part : Part) where
   -- a home that nothing was committed from
-  abbrev pub IsLeft : Head → Type 0
-  IsLeft head = KnowsClient u now w.home.client w.home.lease head w.home.attempt part
+  abbrev pub IsLeft : Writing → Head → Type 0
+  IsLeft w head = KnowsClient u now w.home.client w.home.lease head w.home.attempt part
 
-  pub logged_known : (v : Result ℕ Trouble) → ((id : ℕ) → v ≡ Ok id → Known (log_at (record w { ids = w.ids ++ id ∷ [] }) (w.place + 1)) u now part) → IsLeft w.home.head
-      → Known (logged_by w v) u now part
-  logged_known (Ok id) done left = done id refl
-  logged_known (Err trouble.Memory) done left = refl
-  logged_known (Err t) done left = left
+  -- what is known behind the call of each stage, by what it answered
+  abbrev pub Behind : Stage → Writing → Home → Answer → Type 0
+  Behind Waiting w g a = ⊥
+  Behind Logging w g a = ((id : ℕ) → sent_of a ≡ Ok id → LogsNext u now (logged w id) g) × IsLeft w w.home.head
+  Behind Opening w g a = (done_of a ≡ Ok tt → SendsNext u now (placed w 0)) × ((end late : ℕ) → done_of a ≡ Err (trouble.Late end late) → IsLeft w (restored w.home.head w.before))
+  Behind Sending w g a = (id : ℕ) → sent_of a ≡ Ok id → SendsNext u now (placed w (w.place + 1))
+  Behind Settling w g a = done_of a ≡ Ok tt → Deletes u now w g
+  Behind Deleting w g a = Deletes u now w g
+  Behind Finished w g a = ⊥
 
-  not_opened_known : (t : Trouble) → ((end late : ℕ) → t ≡ trouble.Late end late → IsLeft (restored w.home.head w.before)) → Known (not_opened w t) u now part
-  not_opened_known (trouble.Late end late) left = left end late refl
-  not_opened_known trouble.Memory left = refl
-  not_opened_known t left = refl
+  -- the next record is sent to the ATOMIC queue, or all were
+  pub logs_on : {w : Writing} {g : Home} {next : WriteStep} → Logs w next → Stands (attempt_of w) w.changes part g → LogsNext u now w g → Known next u now part
+  logs_on (step.logs r e) stands k = in_hand _ stands (record { routes = k.routes; has = k.has; messages = k.messages })
+  logs_on {w = w} (step.opens e) stands k =
+      let all = take_all w.place w.records (past_none w.records w.place e) in
+      in_hand _ stands
+      (record { base = w.home.head; routes = k.routes; head = refl; before = refl; has = record { sent = k.has.sent ∙ all; needed = k.has.needed ∙ all }; messages = k.messages })
 
-  abbrev err_of : Trouble → Result (Unit {0}) Trouble
-  err_of t = Err t
+  posted : (g : Home) {w : Writing} {a : Answer} {n : ℕ} → Posts w a n → Behind w.stage w g a → SendsNext u now (placed w n)
+  posted g (step.opened w) k = k.0 refl
+  posted g (step.one_sent w id) k = k id refl
 
-  pub opened_known : (v : Result (Unit {0}) Trouble) → (v ≡ Ok tt → Known (send_at w 0) u now part)
-      → ((end late : ℕ) → v ≡ Err (trouble.Late end late) → IsLeft (restored w.home.head w.before)) → Known (opened_by w v) u now part
-  opened_known (Ok tt) done left = done refl
-  opened_known (Err t) done left = not_opened_known t (λ end late e. left end late (ap err_of e))
+  cleared : {w : Writing} {g : Home} {a : Answer} {n : ℕ} → Clears w a n → Behind w.stage w g a → Deletes u now w g
+  cleared (step.settled w) k = k refl
+  cleared (step.one_tried w a found) k = k
 
-  pub sent_known : (v : Result ℕ Trouble) → ((id : ℕ) → v ≡ Ok id → Known (send_at w (w.place + 1)) u now part) → Known (sent_by w v) u now part
-  sent_known (Ok id) done = done id refl
-  sent_known (Err trouble.Memory) done = refl
-  sent_known (Err t) done = refl
-
-  pub settled_known : (v : Result (Unit {0}) Trouble) → (v ≡ Ok tt → Known (delete_at w 0) u now part) → Known (settled_by w v) u now part
-  settled_known (Ok tt) done = done refl
-  settled_known (Err trouble.Memory) done = refl
-  settled_known (Err t) done = refl
-
-  pub deleted_known : (v : Result (Unit {0}) Trouble) → Known (delete_at w (w.place + 1)) u now part → Known (deleted_by w v) u now part
-  deleted_known (Err trouble.Memory) next = refl
-  deleted_known (Err t) next = next
-  deleted_known (Ok tt) next = next
+  pub leads : {w : Writing} {g : Home} {a : Answer} {next : WriteStep} → Comes w a next → Stands (attempt_of w) w.changes part g → Behind w.stage w g a → Known next u now part
+  leads (step.goes_on w id next on) stands k = logs_on on stands (k.0 id refl)
+  leads (step.not_logged w a failed) stands k = k.1
+  leads (step.late w end late) stands k = k.1 end late refl
+  leads (step.doubts w a failed) stands k = refl
+  leads {g = g} (step.sends n r posts e) stands k =
+      let on = posted g posts k in in_hand _ stands (record { has = on.has; committed = on.committed; sent = on.sent; messages = on.messages })
+  leads {w = w} {g = g} (step.settles n posts e) stands k =
+      let on = posted g posts k in
+      in_hand _ stands (record {
+        opened = w.home.head;
+        has = on.has;
+        committed = on.committed;
+        head = refl;
+        sent = λ place r less there. let past = past_none w.records n e in on.sent place r (omega (arith, less, past)) there;
+        messages = on.messages;
+      })
+  leads (step.stays_open leaves) stands k = refl
+  leads (step.deletes n id clears e) stands k =
+      let on = cleared clears k in
+      in_hand _ stands (record { committed = on.committed; settled = on.settled; txn_is = on.txn_is; past = on.past; newest = on.newest; trees = on.trees; of_records = on.of_records; counted = on.counted; needed = on.needed; messages = on.messages })
+  leads {w = w} {g = g} (step.ends n clears e) stands k =
+      let on = cleared clears k in
+      knows_home u now (attempt_of w) w.changes part g w.home.head stands refl (let e = on.txn_is in omega (arith, e)) on.settled
+      (λ lasts. subst (λ (h : Head). IsPruned u.tally w.home.client h w.home.head) (sym (on.newest lasts)) (pruned_itself u.tally w.home.client w.home.head)) on.trees on.of_records on.counted
+  leads (step.lacks w under) stands k = refl
+  leads (step.waits w a) stands k = refl
+  leads (step.rests w a) stands k = refl
 
 -- a put that was late leaves the head as it was
 pub restored_is : (w : Writing) (base : Head) → w.home.head ≡ opened_head base w.home.attempt w.records → w.before ≡ before_of base → restored w.home.head w.before ≡ base

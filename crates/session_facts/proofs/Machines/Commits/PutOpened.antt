@@ -11,12 +11,13 @@ use Rattle.cloud_trait.specs.Growth.{BeginsWith}
 use Rattle.session_facts.specs.Machines.Commits.Knows.{attempt_of, IsOfAttempt, AreMessagesOf, OpensBehind, HasOpened, HasCommitted, KnowsNext}
 use Rattle.session_facts.specs.Machines.Commits.Audited.{noted_at}
 use Rattle.session_facts.proofs.Machines.Commits.Records.{record_of, record_for, messages_stay}
-use Rattle.session_facts.proofs.Machines.Commits.Nexts.{WriteStep, IsLeft, part_next, next_homes, knows_home, sends_at, opened_known, restored_is}
+use Rattle.session_facts.proofs.Machines.Commits.Nexts.{WriteStep, IsLeft, part_next, next_homes, knows_home, leads, restored_is}
 use Rattle.session_facts.proofs.Machines.Commits.Opened as opened
 use Rattle.session_facts.proofs.Machines.Commits.Ready.{Ready, OutcomeAt, at_home, holds, homes, lasting, alone}
 use Rattle.session_facts.proofs.Machines.Commits.Routes.{records}
 use Rattle.commit_writes.specs.declared.stage.Stage.TheVariants.{Opening}
-use Rattle.commit_writes.specs.Writing.{Writing, head_ask, restored, next_at}
+use Rattle.commit_writes.specs.Writing.{Writing, head_ask, restored, writing_next}
+use Rattle.commit_writes.proofs.Outcomes.{comes, at as staged}
 use Rattle.db_base.specs.declared.names.ObjName.TheVariants as object
 use Rattle.head_codec.specs.Spelling.{head_of}
 use Rattle.history.specs.Audited.{committed_entry}
@@ -35,9 +36,12 @@ use Rattle.cloud_facts.proofs.Book.Places.{in_either, in_behind}
 use Rattle.session_facts.proofs.Machines.Openings.Counted.{counted_in, log_in}
 use Rattle.session_facts.proofs.Machines.Openings.Entries.{records_in}
 
-module _ (who : Caller) (book : Book) (order : List Entry) (s t : CloudState) (parts : Parts) (w : Writing) (reply : Answer) (part : Part) (g : Home)
-    (ready : Ready who book order s t.now parts w part g) (a : OpensBehind (store_of book order s) t.now w g) (sound : head_of w.out ≡ Some w.home.head)
-    (call : IsCall who (head_ask w) reply s t) where
+module _ (who : Caller) (book : Book) (order : List Entry) (s t : CloudState) (parts : Parts) (v : Writing) (reply : Answer) (part : Part) (g : Home)
+    (ready : Ready who book order s t.now parts (staged v Opening) part g) (a : OpensBehind (store_of book order s) t.now (staged v Opening) g)
+    (sound : head_of v.out ≡ Some v.home.head) (call : IsCall who (head_ask v) reply s t) where
+  abbrev w : Writing
+  w = staged v Opening
+
   abbrev st : Store
   st = store_of book order s
 
@@ -45,12 +49,12 @@ module _ (who : Caller) (book : Book) (order : List Entry) (s t : CloudState) (p
   client = w.home.client
 
   abbrev step : WriteStep
-  step = next_at Opening w reply
+  step = writing_next w reply
 
   -- the head as it was is left where the put was late
-  left : (u : Store) → (Lasts t.now w.home.lease → IsPruned u.tally client (u.tally.head client) a.base) → BeginsWith book.log u.book.log → IsLeft u t.now w part (restored w.home.head w.before)
+  left : (u : Store) → (Lasts t.now w.home.lease → IsPruned u.tally client (u.tally.head client) a.base) → BeginsWith book.log u.book.log → IsLeft u t.now part w (restored w.home.head w.before)
   left u newest grows =
-      subst (λ h. IsLeft u t.now w part h) (sym (restored_is w a.base a.head a.before))
+      subst (λ h. IsLeft u t.now part w h) (sym (restored_is w a.base a.head a.before))
       (knows_home u t.now (attempt_of w) w.changes part g a.base ready.stands (a.routes).epoch_is (let e = (a.routes).later in omega (arith, e)) (a.routes).settled newest (a.routes).trees
       (records_in book.log u.book.log client (a.base).pending (log_in book.log u.book.log grows) (a.routes).of_records)
       (counted_in book.log u.book.log client (a.base).counters grows (a.routes).counted))
@@ -155,9 +159,10 @@ module _ (who : Caller) (book : Book) (order : List Entry) (s t : CloudState) (p
         (landing.opens client w.home.head recs w.out w.home.lease None sound opens_recs) tt
         (g, at_home who book order s t.now parts w part g ready, sym same_client, sym ((ready.stands).home).epoch_is) tt (part_next step part)
         (next_homes su.tally t.now parts who.session part step after_homes)
-        (opened_known su t.now w part (done_of reply)
-        (λ done. sends_at su t.now w part g ready.stands 0 has_opened has_committed (λ place r less there. absurd (omega (arith, less))) messages)
-        (λ end late e. left su (λ still. absurd (put_late who (object.Head client) w.out w.home.lease reply s t call end late e still)) (recs, refl)))
+        (leads su t.now part (comes w reply) ready.stands (
+          λ done. record { has = has_opened; committed = has_committed; sent = λ place r less there. absurd (omega (arith, less)); messages = messages },
+          λ end late e. left su (λ still. absurd (put_late who (object.Head client) w.out w.home.lease reply s t call end late e still)) (recs, refl),
+        ))
         noted
 
   pub opening_outcome : OutcomeAt who book order s t parts w reply Opening
@@ -167,5 +172,5 @@ module _ (who : Caller) (book : Book) (order : List Entry) (s t : CloudState) (p
       on (inl p) =
           stays who book order s t parts (w.home.lease ∷ []) (head_ask w) (noted_at Opening w (head_ask w)) (KnowsNext step) p.0 (ready.setting).cloud (part_next step part)
           (next_homes st.tally t.now parts who.session part step (homes who book order s t.now parts w part g ready))
-          (opened_known st t.now w part (done_of reply) (λ done. absurd (p.1 done)) (λ end late e. left st (a.routes).newest ([], sym (append-nil book.log))))
+          (leads st t.now part (comes w reply) ready.stands (λ done. absurd (p.1 done), λ end late e. left st (a.routes).newest ([], sym (append-nil book.log))))
       on (inr lands) = opened_outcome (put_lasts who (object.Head client) w.out w.home.lease None (called who t.now s) t lands) lands

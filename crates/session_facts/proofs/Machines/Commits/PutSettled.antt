@@ -12,11 +12,12 @@ use Rattle.session_facts.specs.Machines.Commits.Knows.{attempt_of, SettlesOpened
 use Rattle.session_facts.specs.Machines.Commits.Audited.{noted_at}
 use Rattle.session_facts.proofs.Machines.Commits.Records.{messages_stay}
 use Rattle.session_facts.proofs.Machines.Commits.Others.{committed_on}
-use Rattle.session_facts.proofs.Machines.Commits.Nexts.{WriteStep, Stands, part_next, next_homes, deletes_at, settled_known}
+use Rattle.session_facts.proofs.Machines.Commits.Nexts.{WriteStep, Stands, part_next, next_homes, leads}
 use Rattle.session_facts.proofs.Machines.Commits.Ready.{Ready, OutcomeAt, at_home, homes, lasting, alone}
 use Rattle.session_facts.proofs.Machines.Commits.Settled.{settles_opened}
 use Rattle.commit_writes.specs.declared.stage.Stage.TheVariants.{Settling}
-use Rattle.commit_writes.specs.Writing.{Writing, head_ask, next_at}
+use Rattle.commit_writes.specs.Writing.{Writing, head_ask, writing_next}
+use Rattle.commit_writes.proofs.Outcomes.{comes, at as staged}
 use Rattle.db_base.specs.declared.names.ObjName.TheVariants as object
 use Rattle.head_codec.specs.Spelling.{head_of}
 use Rattle.cloud_facts.specs.Homes.Homes.{Home, Part, AtHome, Parts, HomesHold}
@@ -29,9 +30,12 @@ use Rattle.cloud_facts.proofs.Book.GrowthLemmas.{head_grows}
 use Rattle.cloud_facts.proofs.Book.Names.{at_same}
 use Rattle.cloud_facts.proofs.Book.Places.{in_front}
 
-module _ (who : Caller) (book : Book) (order : List Entry) (s t : CloudState) (parts : Parts) (w : Writing) (reply : Answer) (part : Part) (g : Home)
-    (ready : Ready who book order s t.now parts w part g) (k : SettlesOpened (store_of book order s) t.now w) (sound : head_of w.out ≡ Some w.home.head)
-    (call : IsCall who (head_ask w) reply s t) where
+module _ (who : Caller) (book : Book) (order : List Entry) (s t : CloudState) (parts : Parts) (v : Writing) (reply : Answer) (part : Part) (g : Home)
+    (ready : Ready who book order s t.now parts (staged v Settling) part g) (k : SettlesOpened (store_of book order s) t.now (staged v Settling))
+    (sound : head_of v.out ≡ Some v.home.head) (call : IsCall who (head_ask v) reply s t) where
+  abbrev w : Writing
+  w = staged v Settling
+
   abbrev st : Store
   st = store_of book order s
 
@@ -39,7 +43,7 @@ module _ (who : Caller) (book : Book) (order : List Entry) (s t : CloudState) (p
   client = w.home.client
 
   abbrev step : WriteStep
-  step = next_at Settling w reply
+  step = writing_next w reply
 
   abbrev su : Store
   su = after_head client w.home.head [] st
@@ -106,7 +110,7 @@ module _ (who : Caller) (book : Book) (order : List Entry) (s t : CloudState) (p
         put_landed who book order s t parts (w.home.lease ∷ []) (noted_at Settling w (head_ask w)) (KnowsNext step) (object.Head client) w.out w.home.lease None su lands (ready.setting).cloud
         (landing.settles client w.home.head w.out w.home.lease None sound settles) tt tt tt (part_next step (AtHome rested))
         (next_homes su.tally t.now parts who.session (AtHome rested) step after_homes)
-        (settled_known su t.now w (AtHome rested) (done_of reply) (λ done. deletes_at su t.now w (AtHome rested) rested after_stands 0 deletes))
+        (leads su t.now (AtHome rested) (comes w reply) after_stands (λ done. deletes))
         noted
 
   pub settling_outcome : OutcomeAt who book order s t parts w reply Settling
@@ -116,5 +120,5 @@ module _ (who : Caller) (book : Book) (order : List Entry) (s t : CloudState) (p
       on (inl p) =
           stays who book order s t parts (w.home.lease ∷ []) (head_ask w) (noted_at Settling w (head_ask w)) (KnowsNext step) p.0 (ready.setting).cloud (part_next step part)
           (next_homes st.tally t.now parts who.session part step (homes who book order s t.now parts w part g ready))
-          (settled_known st t.now w part (done_of reply) (λ done. absurd (p.1 done)))
+          (leads st t.now part (comes w reply) ready.stands (λ done. absurd (p.1 done)))
       on (inr lands) = settled_outcome (put_lasts who (object.Head client) w.out w.home.lease None (called who t.now s) t lands) lands

@@ -12,10 +12,11 @@ use Rattle.session_facts.specs.Machines.Commits.Audited.{noted_at}
 use Rattle.session_facts.proofs.Machines.Commits.Records.{take_next, record_of, messages_stay}
 use Rattle.session_facts.proofs.Machines.Commits.Others.{routes_others}
 use Rattle.session_facts.proofs.Machines.Commits.Logged.{logs}
-use Rattle.session_facts.proofs.Machines.Commits.Nexts.{WriteStep, Stands, part_next, next_homes, knows_home, logs_at, logged_known}
+use Rattle.session_facts.proofs.Machines.Commits.Nexts.{WriteStep, Stands, part_next, next_homes, knows_home, leads}
 use Rattle.session_facts.proofs.Machines.Commits.Ready.{Ready, OutcomeAt, at_home, holds, homes}
 use Rattle.commit_writes.specs.declared.stage.Stage.TheVariants.{Logging}
-use Rattle.commit_writes.specs.Writing.{Writing, log_ask, next_at}
+use Rattle.commit_writes.specs.Writing.{Writing, log_ask, writing_next}
+use Rattle.commit_writes.proofs.Outcomes.{comes, at as staged}
 use Rattle.db_base.specs.declared.names.QueueName.TheVariants.{Atomic}
 use Rattle.cloud_facts.specs.Homes.Homes.{Home, Part, AtHome, Parts, HomesHold}
 use Rattle.cloud_facts.proofs.Homes.HomeLemmas.{with_sent, logged_keeps}
@@ -35,9 +36,12 @@ pub sent_id : (who : Caller) (queue : QueueName) (bytes : List ℕ) (answer : An
 sent_id who queue bytes (Sent k) s t call id e = let same : k ≡ id = cc in sym same ∙ call.row.1
 sent_id who queue bytes answer s t call id e = absurd (cc)
 
-module _ (who : Caller) (book : Book) (order : List Entry) (s t : CloudState) (parts : Parts) (w : Writing) (reply : Answer) (part : Part) (g : Home)
-    (ready : Ready who book order s t.now parts w part g) (a : LogsNext (store_of book order s) t.now w g) (r : AtomicRec) (there : slice_get w.records w.place ≡ Some r)
-    (reads : atomic_of w.out ≡ Some r) (call : IsCall who (log_ask w) reply s t) where
+module _ (who : Caller) (book : Book) (order : List Entry) (s t : CloudState) (parts : Parts) (v : Writing) (reply : Answer) (part : Part) (g : Home)
+    (ready : Ready who book order s t.now parts (staged v Logging) part g) (a : LogsNext (store_of book order s) t.now (staged v Logging) g) (r : AtomicRec)
+    (there : slice_get v.records v.place ≡ Some r) (reads : atomic_of v.out ≡ Some r) (call : IsCall who (log_ask v) reply s t) where
+  abbrev w : Writing
+  w = staged v Logging
+
   abbrev st : Store
   st = store_of book order s
 
@@ -45,7 +49,7 @@ module _ (who : Caller) (book : Book) (order : List Entry) (s t : CloudState) (p
   client = w.home.client
 
   abbrev step : WriteStep
-  step = next_at Logging w reply
+  step = writing_next w reply
 
   abbrev post : Posted
   post = sent_by who w.out
@@ -132,12 +136,10 @@ module _ (who : Caller) (book : Book) (order : List Entry) (s t : CloudState) (p
       on (inl p) =
           stays who book order s t parts (w.home.lease ∷ []) (log_ask w) (noted_at Logging w (log_ask w)) (KnowsNext step) p.0 (ready.setting).cloud (part_next step part)
           (next_homes st.tally t.now parts who.session part step (homes who book order s t.now parts w part g ready))
-          (logged_known st t.now w part (sent_of reply) (λ id done. absurd (p.1 id done)) (left st part g ready.stands a.routes))
+          (leads st t.now part (comes w reply) ready.stands (λ id done. absurd (p.1 id done), left st part g ready.stands a.routes))
       on (inr lands) =
           other_landed who book order s t parts (w.home.lease ∷ []) (log_ask w) (noted_at Logging w (log_ask w)) (KnowsNext step) su lands (ready.setting).cloud (landing.logs client w.out r sends) tt tt tt
           (part_next step after) (next_homes su.tally t.now parts who.session after step after_homes)
-          (logged_known su t.now w after (sent_of reply)
-          (λ id done. logs_at su t.now (record w { ids = w.ids ++ id ∷ [] }) after (with_sent g r) after_stands (w.place + 1)
-          routes_after has (messages id done))
-          (left su after (with_sent g r) after_stands routes_after))
+          (leads su t.now after (comes w reply) after_stands
+          (λ id done. record { routes = routes_after; has = has; messages = messages id done }, left su after (with_sent g r) after_stands routes_after))
           (λ look new. refl) refl

@@ -13,11 +13,12 @@ use Rattle.session_facts.specs.Machines.Commits.Knows.{attempt_of, IsOfAttempt, 
 use Rattle.session_facts.specs.Machines.Commits.Audited.{noted_at}
 use Rattle.session_facts.proofs.Machines.Commits.Records.{messages_stay}
 use Rattle.session_facts.proofs.Machines.Commits.Others.{sent_others, opened_others}
-use Rattle.session_facts.proofs.Machines.Commits.Nexts.{WriteStep, part_next, next_homes, sends_at, sent_known}
+use Rattle.session_facts.proofs.Machines.Commits.Nexts.{WriteStep, part_next, next_homes, leads}
 use Rattle.session_facts.proofs.Machines.Commits.Ready.{Ready, homes}
 use Rattle.session_facts.proofs.Machines.Commits.Settled.{queue_is, posts_record, posted_waits, posted_copied}
 use Rattle.commit_writes.specs.declared.stage.Stage.TheVariants.{Sending}
-use Rattle.commit_writes.specs.Writing.{Writing, next_at}
+use Rattle.commit_writes.specs.Writing.{Writing, writing_next}
+use Rattle.commit_writes.proofs.Outcomes.{comes, placed, at as staged}
 use Rattle.cloud_facts.specs.Copies.Copies.{IsSentOn, SendsInTurn}
 use Rattle.cloud_facts.proofs.Copies.Turns.{sends_in_turn}
 use Rattle.cloud_facts.proofs.Numbers.Ways.{way_epoch, way_txn}
@@ -34,14 +35,17 @@ use Rattle.cloud_facts.specs.Book.Records.{IsUnderWay}
 use Rattle.cloud_facts.specs.Book.Telling.{queue_of}
 use Rattle.cloud_facts.proofs.Book.GrowthLemmas.{posted_grows}
 
-module _ (who : Caller) (book : Book) (order : List Entry) (s t : CloudState) (parts : Parts) (w : Writing) (reply : Answer) (part : Part) (g : Home)
-    (ready : Ready who book order s t.now parts w part g) (a : SendsNext (store_of book order s) t.now w) (r : AtomicRec) (there : slice_get w.records w.place ≡ Some r)
-    (reads : pu_of w.out ≡ Some (pu_record_of r)) where
+module _ (who : Caller) (book : Book) (order : List Entry) (s t : CloudState) (parts : Parts) (v : Writing) (reply : Answer) (part : Part) (g : Home)
+    (ready : Ready who book order s t.now parts (staged v Sending) part g) (a : SendsNext (store_of book order s) t.now (staged v Sending)) (r : AtomicRec)
+    (there : slice_get v.records v.place ≡ Some r) (reads : pu_of v.out ≡ Some (pu_record_of r)) where
+  abbrev w : Writing
+  w = staged v Sending
+
   abbrev st : Store
   st = store_of book order s
 
   abbrev step : WriteStep
-  step = next_at Sending w reply
+  step = writing_next w reply
 
   abbrev send : Ask
   send = Send (queue_of r.tree r.page) w.out
@@ -103,6 +107,14 @@ module _ (who : Caller) (book : Book) (order : List Entry) (s t : CloudState) (p
           record_is : (x y : AtomicRec) → Some x ≡ Some y → x ≡ y
           record_is x y f = cc
 
+  sent : SendsNext su t.now (placed w (w.place + 1))
+  sent = record {
+    has = opened_others st su t.now t.now (attempt_of w) (omega arith) (λ lasts. refl) (λ q is of. is) w.records w.home.head (λ q is. is) a.has;
+    committed = a.committed;
+    sent = more;
+    messages = messages_stay st su (attempt_of w) w.ids (posted_grows st r.tree r.page (sent_by who w.out)) a.messages;
+  }
+
   sent_there : IsCall who send reply s t → OutcomeOf send
   sent_there call = on (send_cases who (queue_of r.tree r.page) w.out reply s t call)
     where
@@ -110,14 +122,11 @@ module _ (who : Caller) (book : Book) (order : List Entry) (s t : CloudState) (p
       on (inl p) =
           stays who book order s t parts (w.home.lease ∷ []) send (noted_at Sending w send) (KnowsNext step) p.0 (ready.setting).cloud (part_next step part)
           (next_homes st.tally t.now parts who.session part step (homes who book order s t.now parts w part g ready))
-          (sent_known st t.now w part (sent_of reply) (λ id done. absurd (p.1 id done)))
+          (leads st t.now part (comes w reply) ready.stands (λ id done. absurd (p.1 id done)))
       on (inr lands) =
           other_landed who book order s t parts (w.home.lease ∷ []) send (noted_at Sending w send) (KnowsNext step) su lands (ready.setting).cloud lands_there tt tt tt (part_next step part)
           (next_homes su.tally t.now parts who.session part step (aside_keeps st.tally su.tally t.now (at who.session part parts) refl refl (homes who book order s t.now parts w part g ready)))
-          (sent_known su t.now w part (sent_of reply)
-          (λ id done. sends_at su t.now w part g ready.stands (w.place + 1)
-          (opened_others st su t.now t.now (attempt_of w) (omega arith) (λ lasts. refl) (λ q is of. is) w.records w.home.head (λ q is. is) a.has) a.committed more
-          (messages_stay st su (attempt_of w) w.ids (posted_grows st r.tree r.page (sent_by who w.out)) a.messages)))
+          (leads su t.now part (comes w reply) ready.stands (λ id done. sent))
           (λ look new. refl) refl
 
   pub sending_outcome : IsCall who (Send (queue_name r.tree r.page) w.out) reply s t → OutcomeOf (Send (queue_name r.tree r.page) w.out)

@@ -1,10 +1,9 @@
 -- The one service call of a step of a session, and what the step explains of it.
-use Rattle.std.specs.Prelude.{ℕ, ◌≡◌, ◌≢◌, ◌⊎◌, List, Some, None, Ok}
+use Rattle.std.specs.Prelude.{ℕ, ◌≡◌, ◌≢◌, ◌⊎◌, Some, None, Ok}
 use Rattle.attr_index.specs.Look.{Look}
 use Rattle.client_work.specs.Session.{Acting, StepsSession, StepsAt, ShowsAt, StepsOpening, StepsCommit, ReadsBy, LooksBy, StepsPaging, StepsFolding, StepsClosing, StepsRenewing, StepsSettling, StepsSweeping, ask_of_work, in_hand, InHand}
 use Rattle.client_work.specs.declared.answer.Answer.{Answer}
 use Rattle.client_work.specs.declared.answer.Answer.TheVariants as answer
-use Rattle.client_work.specs.declared.shown.Shown.{Shown}
 use Rattle.client_work.specs.declared.work.Work.{Work}
 use Rattle.client_work.specs.declared.work.Work.TheVariants.{Closed, Idle, Opening, Committing, Reading, Scanning, Looking, Folding, Paging, Closing, Renewing, Settling, Sweeping, Broken}
 use Rattle.cloud_facts.specs.Words.{Answer as Reply, Turn, More, Ended, CloudState, Caller, Seen, Claim, Ask, Release}
@@ -24,7 +23,6 @@ use Rattle.orphan_sweep.specs.Sweeping.{Sweeping as SweepingState}
 use Rattle.settle_run.specs.Settling.{Settling as SettlingState}
 use Rattle.tree_ckpt.specs.Making.{Making}
 use Rattle.tree_walk.specs.Walk.{Walk}
-use Rattle.txn_buffer.specs.Noted.{Noted}
 
 -- ---- what the call of a step answered, by what was at work
 

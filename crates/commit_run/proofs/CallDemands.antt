@@ -1,6 +1,5 @@
 -- Which answer each call of a whole commit demands, what it names, and that it ends well where it is calm.
 use Rattle.std.proofs.Common.{◌≡◌, ◌≤◌, ◌+◌, ℕ, Bool, true, false, List, [], ◌∷◌, ◌++◌, length, Some, refl, ap, sym, subst, ◌∙◌, inl, inr, ◌⊎◌, arith}
-use Rattle.std.specs.Prelude.{if◌then◌else◌}
 use Rattle.std.specs.List.{AllByRecursion}
 use Rattle.db_base.specs.declared.names.ObjName.TheVariants as object
 use Rattle.db_base.specs.declared.names.QueueName.TheVariants as queue
@@ -15,7 +14,6 @@ use Rattle.cloud_trait.specs.Seen.{Seen}
 use Rattle.cloud_trait.specs.Weather.{Fits, Makes}
 use Rattle.cloud_trait.specs.Calm.{GoesWell, IsCalm, AreCalm, ComesNext, AreAlone}
 use Rattle.cloud_trait.proofs.CalmLemmas.{goes_well}
-use Rattle.commit_writes.specs.Writing.{numbered}
 use Rattle.commit_writes.specs.Demands.{IsPut, NonePut, WasOpened, deletions_in, deletions, DemandsNot, Demands, Exactly}
 use Rattle.commit_writes.specs.Meaning.{MeansTurn as WritesTurn}
 use Rattle.commit_writes.specs.Leases.{IsSentTo, IsOwnCall}
@@ -39,7 +37,9 @@ use Rattle.commit_run.specs.Leases.{Names}
 use Rattle.commit_run.specs.Plain.{IsPlain}
 use Rattle.commit_run.specs.Stepped.{course_of, MeansWrites, MeansIn, Whole, Stepped}
 use Rattle.commit_run.specs.Calm.{IsMet, IsWell, EndsWell}
-use Rattle.commit_run.proofs.Words.{Trouble, CommitAnswer, NotCommitted, AtomicRec, Noted, Answer, Turn, More, Stopped, Ask, Get, Next, Goes, Ends, Stops, LeadsBy, Took, Deed, Home, Cache, LinkShows, Walk, new_walk, walk_ask, walk_next, Stage, Waiting, Logging, Opening, Sending, Settling, Deleting, Finished, Writing, waiting, is_spent, writing_ask, Calls, told, routed_length, Hand, Writes, First, Change, Draft, new_draft, pruned_behind, Run, held, new_run, home_of, asks, ask_at, target_of, written, refused, troubled, by_turn, is_stale, stale_at, walk_turned, walked, begin_walks, run_ready, run_next, Led, KeepsHome, walked_home, MeansWalks, left_by_turn, Trip, uses_of, Went, GetsNothing}
+use Rattle.commit_run.proofs.Words.{Trouble, CommitAnswer, NotCommitted, AtomicRec, Noted, Answer, Turn, More, Stopped, Ask, Get, Goes, Ends, Stops, LeadsBy, Took, Deed, Home, Cache, LinkShows, Walk, new_walk, walk_ask, walk_next, Stage, Waiting, Logging, Opening, Sending, Settling, Deleting, Finished, Writing, is_spent, writing_ask, Calls, told, routed_length, Hand, Writes, First, Change, Draft, Run, held, new_run, home_of, asks, ask_at, target_of, written, is_stale, walked, run_ready, run_next, Led, KeepsHome, walked_home, MeansWalks, left_by_turn, Trip, uses_of, Went, GetsNothing}
+use Rattle.commit_run.proofs.Outcomes as step
+use Rattle.commit_run.proofs.Outcomes.{NextRun, Behind, Comes, Starts, comes, starts}
 use Rattle.commit_run.proofs.Causes.{Shown, WalkCause, walked_shown, write_causes, walk_causes, ready_causes}
 use Rattle.commit_run.proofs.Knows.{KnowsHeld, KnowsWrites, KnowsAt}
 use Rattle.commit_run.proofs.Leading.{wrote_took}
@@ -83,29 +83,6 @@ get_shows m k cs w c a changes n none (NotCommitted t) is tells of =
 get_shows m k cs w c a changes n none InDoubt is tells of = absurd is
 get_shows m k cs w c a changes n none (CommittedOpen t) is tells of = absurd is
 
--- a turn ends with this answer
-abbrev pub EndsSo : CommitAnswer → Next (Run × Cache) CommitAnswer → Type 0
-EndsSo x (Goes m) = ⊥
-EndsSo x (Ends m y) = y ≡ x
-EndsSo x (Stops m t) = ⊥
-
-get_demands : (n k : ℕ) (cs : Calls) (first : Bool) (d : Draft) (w : Walk) (c : Cache) (a : Answer) → NonePut cs → (x : CommitAnswer) → Demands n k cs (walk_ask w) a x → EndsSo x (walked first d w c a)
-get_demands n k cs first d w c a none (Committed y) h = absurd h.1
-get_demands n k cs first d w c a none (NotCommitted trouble.Failed) h = subst (λ (b : Answer). EndsSo (NotCommitted trouble.Failed) (walked first d w c b)) (sym h.2) refl
-get_demands n k cs first d w c a none (NotCommitted (trouble.Late end now)) h = absurd h.1
-get_demands n k cs first d w c a none (NotCommitted t) h = absurd h
-get_demands n k cs first d w c a none InDoubt h = absurd h.1
-get_demands n k cs first d w c a none (CommittedOpen t) h = absurd (opened_put cs h.0 none)
-
-the_answer : (x y : CommitAnswer) → ◌≡◌ {A = Turn CommitAnswer} (Ended x) (Ended y) → x ≡ y
-the_answer x y e = cc (e)
-
-stopped_not : (t : Trouble) (x : CommitAnswer) → ◌≡◌ {A = Turn CommitAnswer} (Stopped t) (Ended x) → ⊥
-stopped_not t x e = absurd (cc (e))
-
-more_not : (x : CommitAnswer) → ◌≡◌ {A = Turn CommitAnswer} More (Ended x) → ⊥
-more_not x e = absurd (cc (e))
-
 -- of a step of the walk in hand
 abbrev pub StepsWalk : Bool → Draft → Walk → Cache → Answer → Run × Cache → Turn CommitAnswer → Type 0
 StepsWalk first d w c a n turn = Took (λ m b next. walked first d w c b ≡ next) KeepsHome (record { draft = d; hand = held first w }, c) a n turn
@@ -119,43 +96,49 @@ walk_took false d w c a n More took = took
 walk_took false d w c a n (Ended x) took = took
 walk_took false d w c a n (Stopped t) took = took
 
-get_exactly : (k n : ℕ) (cs : Calls) (first : Bool) (d : Draft) (w : Walk) (c : Cache) (a : Answer) (m : Run × Cache) (turn : Turn CommitAnswer) → NonePut cs → Fits (walk_ask w) a → StepsWalk first d w c a m turn
-    → ((x : CommitAnswer) → turn ≡ Ended x → IsNot x) → (x : CommitAnswer) → IsOfCalls x → Exactly (Demands k n cs (walk_ask w) a x) x turn
-get_exactly k n cs first d w c a m More none fits took not x of = record {
-  only = λ e. absurd (more_not x e);
-  always = λ y. absurd (subst (EndsSo x) took (get_demands k n cs first d w c a none x y));
-}
-get_exactly k n cs first d w c a m (Ended z) none fits took not x of = record {
-  only = λ e. get_shows k n cs w c a d.writes.changes m.0 none x (not x e)
-      (subst (TellsOf (WalkCause w c a d.writes.changes m.0)) (the_answer z x e) (subst (Shown (WalkCause w c a d.writes.changes)) took (walked_shown first d w c a fits))) of;
-  always = λ y. inl (ap Ended (subst (EndsSo x) took (get_demands k n cs first d w c a none x y)));
-}
-get_exactly k n cs first d w c a m (Stopped t) none fits took not x of = record {
-  only = λ e. absurd (stopped_not t x e);
-  always = λ y. inr (ap Stopped (only_memory t (λ other. absurd (subst (EndsSo x) (took.0 other) (get_demands k n cs first d w c a none x y)))));
-}
-
 -- a turn ends with the trouble, or memory ran out
-abbrev pub EndsBy : Trouble → Next (Run × Cache) CommitAnswer → Type 0
+abbrev pub EndsBy : Trouble → NextRun → Type 0
 EndsBy t (Goes m) = ⊥
 EndsBy t (Ends m y) = y ≡ NotCommitted t
 EndsBy t (Stops m u) = u ≡ trouble.Memory
 
-pub troubled_by : (d : Draft) (c : Cache) (t : Trouble) → EndsBy t (troubled d c t)
-troubled_by d c trouble.Memory = refl
-troubled_by d c t = refl
+-- a walk that stops, and at no stale page, ends the commit
+fresh_behind : {d e : Draft} {w : Walk} {c k : Cache} {a : Answer} {first : Bool} {after : Walk × Cache} {t : Trouble} → Behind d w c a first e k → walk_next (w, c) a ≡ Stops after t → is_stale t ≡ false → ⊥
+fresh_behind (step.at_leaf first m page ended aims) stops fresh = absurd (cc (ended, stops))
+fresh_behind (step.at_stale m u e stale) stops fresh = absurd (cc (e, stops, stale, fresh))
+fresh_behind (step.passed_over m u e stale) stops fresh = absurd (cc (e, stops, stale, fresh))
 
-stops_by : (first : Bool) (d : Draft) (w : Walk) (c : Cache) (a : Answer) (after : Walk × Cache) (t : Trouble) → walk_next (w, c) a ≡ Stops after t → is_stale t ≡ false → EndsBy t (walked first d w c a)
-stops_by first d w c a after t e stale =
-    subst (λ (x : Next (Walk × Cache) ℕ). EndsBy t (by_turn (walk_turned first d) x)) (sym e)
-    (subst (λ (b : Bool). EndsBy t (if b then stale_at first (pruned_behind d after.0 after.1) after.1 else troubled (pruned_behind d after.0 after.1) after.1 t)) (sym stale)
-    (troubled_by (pruned_behind d after.0 after.1) after.1 t))
+stops_by : {d : Draft} {w : Walk} {c : Cache} {a : Answer} {first : Bool} {x : NextRun} {after : Walk × Cache} {t : Trouble} → Comes d w c a first x → walk_next (w, c) a ≡ Stops after t → is_stale t ≡ false
+    → EndsBy t x
+stops_by (step.goes m e is aims) stops fresh = absurd (cc (e, stops))
+stops_by {t = t} (step.ends m u e own other) stops fresh = let same : u ≡ t = cc (e, stops) in ap NotCommitted same
+stops_by (step.lacks m e) stops fresh = refl
+stops_by (step.plans e k y from p) stops fresh = absurd (fresh_behind from stops fresh)
 
 took_by : (first : Bool) (d : Draft) (w : Walk) (c : Cache) (a : Answer) (m : Run × Cache) (turn : Turn CommitAnswer) (t : Trouble) → StepsWalk first d w c a m turn → EndsBy t (walked first d w c a)
     → (turn ≡ Ended (NotCommitted t)) ⊎ (turn ≡ Stopped trouble.Memory)
 took_by first d w c a m More t took by = absurd (subst (EndsBy t) took by)
 took_by first d w c a m (Ended z) t took by = inl (ap Ended (subst (EndsBy t) took by))
 took_by first d w c a m (Stopped u) t took by = inr (ap Stopped (only_memory u (λ other. subst (EndsBy t) (took.0 other) by)))
+
+get_demands : (n k : ℕ) (cs : Calls) (first : Bool) (d : Draft) (w : Walk) (c : Cache) (a : Answer) (m : Run × Cache) (turn : Turn CommitAnswer) → NonePut cs → StepsWalk first d w c a m turn
+    → (x : CommitAnswer) → Demands n k cs (walk_ask w) a x → (turn ≡ Ended x) ⊎ (turn ≡ Stopped trouble.Memory)
+get_demands n k cs first d w c a m turn none took (Committed y) h = absurd h.1
+get_demands n k cs first d w c a m turn none took (NotCommitted trouble.Failed) h =
+    took_by first d w c a m turn trouble.Failed took (stops_by (comes d w c a first) (ap (λ (b : Answer). walk_next (w, c) b) h.2) refl)
+get_demands n k cs first d w c a m turn none took (NotCommitted (trouble.Late end now)) h = absurd h.1
+get_demands n k cs first d w c a m turn none took (NotCommitted t) h = absurd h
+get_demands n k cs first d w c a m turn none took InDoubt h = absurd h.1
+get_demands n k cs first d w c a m turn none took (CommittedOpen t) h = absurd (opened_put cs h.0 none)
+
+get_exactly : (k n : ℕ) (cs : Calls) (first : Bool) (d : Draft) (w : Walk) (c : Cache) (a : Answer) (m : Run × Cache) (turn : Turn CommitAnswer) → NonePut cs → Fits (walk_ask w) a → StepsWalk first d w c a m turn
+    → ((x : CommitAnswer) → turn ≡ Ended x → IsNot x) → (x : CommitAnswer) → IsOfCalls x → Exactly (Demands k n cs (walk_ask w) a x) x turn
+get_exactly k n cs first d w c a m turn none fits took not x of = record {
+  only = λ e.
+      let ends : walked first d w c a ≡ Ends m x = subst (StepsWalk first d w c a m) e took in
+      get_shows k n cs w c a d.writes.changes m.0 none x (not x e) (subst (Shown (WalkCause w c a d.writes.changes)) ends (walked_shown first d w c a fits)) of;
+  always = λ y. get_demands k n cs first d w c a m turn none took x y;
+}
 
 stops_in : (first : Bool) (w : Walk) (c : Cache) (a : Answer) (t : Trouble) → StopsIn (held first w) c a t → (after : Walk × Cache) × (walk_next (w, c) a ≡ Stops after t) × (is_stale t ≡ false)
 stops_in true w c a t s = s
@@ -174,7 +157,7 @@ pub walk_refuses : (first : Bool) (d : Draft) (w : Walk) (c : Cache) (a : Answer
     → IsRefusing (record { draft = d; hand = held first w }, c) a turn
 walk_refuses first d w c a n turn took t s =
     let stop : (e : Walk × Cache) × (walk_next (w, c) a ≡ Stops e t) × (is_stale t ≡ false) = stops_in first w c a t s in
-    took_by first d w c a n turn t (walk_took first d w c a n turn took) (stops_by first d w c a stop.0 t stop.1 stop.2)
+    took_by first d w c a n turn t (walk_took first d w c a n turn took) (stops_by (comes d w c a first) stop.1 stop.2)
 
 walk_exact : (home : Home) (changes : List Noted) (begin : Cache) (h : List Deed) (first : Bool) (d : Draft) (w : Walk) (c : Cache) (a : Answer) (n : Run × Cache) (turn : Turn CommitAnswer) → Fits (walk_ask w) a
     → Took (LeadsBy run_next) KeepsHome (record { draft = d; hand = held first w }, c) a n turn → KnowsHeld home changes begin (told h) d first (w, c)
@@ -475,14 +458,15 @@ never_link : (c : Cache) (old w : Walk) → LinkShows c old w (trouble.Exhausted
 never_link c old w link = link_is c old w (trouble.Exhausted counter.Txn) link
 
 -- the code was led to the trouble, unless memory ran out
-pub led_by : (t : Trouble) (next : Next (Run × Cache) CommitAnswer) (n : Run × Cache) (turn : Turn CommitAnswer) → EndsBy t next → Led next n turn → (turn ≡ Ended (NotCommitted t)) ⊎ (turn ≡ Stopped trouble.Memory)
+pub led_by : (t : Trouble) (next : NextRun) (n : Run × Cache) (turn : Turn CommitAnswer) → EndsBy t next → Led next n turn → (turn ≡ Ended (NotCommitted t)) ⊎ (turn ≡ Stopped trouble.Memory)
 led_by t next n More by led = absurd (subst (EndsBy t) led by)
 led_by t next n (Ended z) by led = inl (ap Ended (subst (EndsBy t) led by))
 led_by t next n (Stopped u) by led = inr (ap Stopped (only_memory u (λ other. subst (EndsBy t) (led other) by)))
 
-ends_spent : (home : Home) (changes : List Noted) (c : Cache) → is_spent home ≡ true → EndsBy (trouble.Exhausted counter.Txn) (run_ready (new_run home changes, c))
-ends_spent home changes c e =
-    subst (λ (b : Bool). EndsBy (trouble.Exhausted counter.Txn) (if b then refused (new_draft (waiting home changes)) c (trouble.Exhausted counter.Txn) else begin_walks (new_draft (numbered (waiting home changes))) c)) (sym e) refl
+ends_spent : {home : Home} {changes : List Noted} {c : Cache} {x : NextRun} → Starts home changes c x → is_spent home ≡ true → EndsBy (trouble.Exhausted counter.Txn) x
+ends_spent (step.spent e) is = refl
+ends_spent (step.long to y left e b) is = absurd (cc (left, is))
+ends_spent (step.few y left e p) is = absurd (cc (left, is))
 
 ready_other : (home : Home) (changes : List Noted) (c : Cache) (n : Run) → ShowsReady (new_run home changes, c) n (trouble.Exhausted counter.Txn) → is_spent home ≡ true
 ready_other home changes c n (inl spent) = spent.1
@@ -494,5 +478,5 @@ pub ready_exact : (home : Home) (changes : List Noted) (c : Cache) (old : Run) (
 ready_exact home changes c old n turn new led = record {
   only = λ e. ready_other home changes c n.0
       (subst (λ (r : Run). ShowsReady (r, c) n.0 (trouble.Exhausted counter.Txn)) new (subst (CausesReady (old, c) n.0) e (ready_causes home changes c old n turn new led)));
-  always = λ e. led_by (trouble.Exhausted counter.Txn) (run_ready (new_run home changes, c)) n turn (ends_spent home changes c e) (subst (λ (r : Run). Led (run_ready (r, c)) n turn) new led);
+  always = λ e. led_by (trouble.Exhausted counter.Txn) (run_ready (new_run home changes, c)) n turn (ends_spent (starts home changes c) e) (subst (λ (r : Run). Led (run_ready (r, c)) n turn) new led);
 }

@@ -36,7 +36,7 @@ plan_shown shows changes d c x next number same (step.writes w none fits e) = tt
 abbrev pub WalkCause : Walk → Cache → Answer → List Noted → Run → Trouble → Type 0
 WalkCause w c a changes n t = ShowsWalk (w, c) a changes n t
 
-behind_shown : (d : Draft) (w : Walk) (c : Cache) (a : Answer) (first : Bool) (e : Draft) (k : Cache) → Behind d w c a first e k → (e.writes.changes ≡ d.writes.changes) × ((left_by_turn (walk_next (w, c) a)).1 ≡ k)
+pub behind_shown : (d : Draft) (w : Walk) (c : Cache) (a : Answer) (first : Bool) (e : Draft) (k : Cache) → Behind d w c a first e k → (e.writes.changes ≡ d.writes.changes) × ((left_by_turn (walk_next (w, c) a)).1 ≡ k)
 behind_shown d w c a first e k (step.at_leaf one m page ended aims) = ((used_kept d.writes m.1 m.0.used).changes, ap (λ (x : Next (Walk × Cache) ℕ). (left_by_turn x).1) ended)
 behind_shown d w c a first e k (step.at_stale m t stopped is) = ((used_kept d.writes m.1 m.0.used).changes, ap (λ (x : Next (Walk × Cache) ℕ). (left_by_turn x).1) stopped)
 behind_shown d w c a first e k (step.passed_over m t stopped is) = ((used_kept d.writes m.1 m.0.used).changes, ap (λ (x : Next (Walk × Cache) ℕ). (left_by_turn x).1) stopped)

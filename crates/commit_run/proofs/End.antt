@@ -1,21 +1,24 @@
 -- A commit ends: each step leaves fewer calls than were left before it.
-use Rattle.std.proofs.Common.{◌≡◌, ◌≢◌, ◌≤◌, ◌<◌, ◌+◌, ◌-◌, ◌*◌, ◌^◌, ℕ, Bool, true, false, List, length, Option, Some, None, refl, ap, sym, subst, ◌∙◌, arith}
-use Rattle.std.specs.Prelude.{slice_get, if◌then◌else◌}
+use Rattle.std.proofs.Common.{◌≡◌, ◌≢◌, ◌≤◌, ◌<◌, ◌+◌, ◌-◌, ◌*◌, ◌^◌, ℕ, Bool, true, false, List, length, Some, refl, ap, sym, subst, ◌∙◌, arith}
 use Rattle.std.proofs.lemmas.Option.{slice_get_within}
 use Rattle.db_base.specs.declared.trouble.Trouble.TheVariants as trouble
 use Rattle.cloud_trait.specs.declared.turn.Turn.TheVariants.{Ended}
-use Rattle.tree_walk.specs.Walk.{HasAim}
+use Rattle.tree_walk.specs.Moves.{Moves}
+use Rattle.tree_walk.specs.Walk.{KeepsServed}
 use Rattle.tree_walk.specs.Walk.{calls_left as walk_left}
 use Rattle.commit_writes.specs.End.{calls_left as writes_left}
 use Rattle.commit_run.specs.Draft.{KnowsNoMore}
-use Rattle.commit_run.specs.Run.{IsHeld, walk_stopped}
+use Rattle.commit_run.specs.Run.{IsHeld}
 use Rattle.commit_run.specs.End.{walk_calls, written_calls, unknown, walks_and_writes, left_at, calls_left, most_calls}
-use Rattle.commit_run.proofs.Words.{Trouble, CommitAnswer, AtomicRec, Noted, Turn, More, Stopped, Next, Goes, Ends, Stops, Home, Cache, Walk, IsAtLeaf, sought, Writing, begun, log_or_open, routed_length, Draft, pruned_behind, planned, leaf_noted, paged, Run, held, new_run, target_of, next_target, troubled, plan_on, is_stale, stale_at, walk_turned, run_ready, Led}
+use Rattle.commit_run.proofs.Words.{CommitAnswer, AtomicRec, Noted, Answer, Turn, More, Stopped, Next, Goes, Ends, Stops, LeadsBy, Took, Home, Cache, Walk, IsAtLeaf, sought, walk_next, Writing, begun, routed_length, Draft, pruned_behind, planned, Run, held, new_run, target_of, next_target, walk_turned, walked, run_ready, Led}
 use Rattle.commit_run.proofs.Planning.{planned_within}
-use Rattle.commit_run.proofs.Hands.{same_target, all_known, one_left}
+use Rattle.commit_run.proofs.Hands.{all_known, one_left}
+use Rattle.commit_run.proofs.Leading.{by_turn_led, took_moves}
 use Rattle.commit_run.proofs.Outcomes as step
-use Rattle.commit_run.proofs.Outcomes.{NextRun, Begins, Plans, Starts, HasKept, used_kept, records_of, plans_on, starts}
-use Rattle.commit_run.proofs.Pages.{known_then, IsBehind, noted_behind, paged_behind, pruned_past}
+use Rattle.commit_run.proofs.Outcomes.{NextRun, Begins, Plans, Comes, Starts, HasKept, used_kept, records_of, comes, starts}
+use Rattle.commit_run.proofs.Pages.{known_then, IsBehind, behind_pages}
+use Rattle.commit_writes.proofs.Outcomes as wrote
+use Rattle.commit_writes.proofs.Outcomes.{Logs, begins}
 
 -- where a turn goes on, no more calls are left than this
 abbrev pub AtMost : ℕ → NextRun → Type 0
@@ -66,11 +69,10 @@ WritesFew n (Goes w) = writes_left w ≤ n
 WritesFew n (Ends w a) = Unit {0}
 WritesFew n (Stops w t) = Unit {0}
 
-begun_few : (w : Writing) (records : List AtomicRec) (walks : ℕ) → length records ≡ length w.changes → WritesFew (walks_and_writes walks w) (begun w records)
-begun_few w records walks many = on (slice_get records 0) where
-  on : (o : Option AtomicRec) → WritesFew (walks_and_writes walks w) (log_or_open (record w { records = records; place = 0 }) o)
-  on (Some r) = omega (arith, many)
-  on None = omega (arith, many)
+begun_few : (w : Writing) (records : List AtomicRec) (x : Next Writing CommitAnswer) (walks : ℕ) → length records ≡ length w.changes → Logs (record w { records = records; place = 0 }) x
+    → WritesFew (walks_and_writes walks w) x
+begun_few w records x walks many (wrote.logs r e) = omega (arith, many)
+begun_few w records x walks many (wrote.opens e) = omega (arith, many)
 
 -- ---- planning on: each change whose leaf is not known then has a walk
 
@@ -80,7 +82,7 @@ plan_most d c x walks within few (step.seeks n y is begins) =
 plan_most d c x walks within few (step.full none e) = tt
 plan_most d c x walks within few (step.writes w none fits e) =
     let known = all_known (planned d) (planned_within d.writes.home.head.pending d.plan.ended d.writes.changes d.plan.pages within) none in
-    subst (WritesFew (walks_and_writes walks d.writes)) e (begun_few d.writes (records_of (planned d)) walks (routed_length d.writes.home d.writes.changes (planned d).plan.pages known))
+    subst (WritesFew (walks_and_writes walks d.writes)) e (begun_few d.writes (records_of (planned d)) (begun d.writes (records_of (planned d))) walks (routed_length d.writes.home d.writes.changes (planned d).plan.pages known) (begins d.writes (records_of (planned d))))
 
 -- ---- a step of the walk in hand
 
@@ -104,10 +106,10 @@ abbrev pub with_walk : ℕ → Bool → Draft → ℕ
 with_walk left first d = (left + 1) + walks_and_writes (behind_of first d) d.writes
 
 -- where the walk ends, or met a stale page, the plan goes on
-plan_below : (left : ℕ) (first : Bool) (d e : Draft) (c : Cache) → IsBehind first d e → IsBelow (with_walk left first d) (plan_on e c)
-plan_below left first d e c b =
-    most_below (walks_and_writes (behind_of first d) e.writes) (with_walk left first d) (plan_on e c) (room left (behind_of first d * walk_calls) (written_calls e.writes) (written_calls d.writes) (same_written d.writes e.writes b.same))
-    (plan_most e c (plan_on e c) (behind_of first d) b.within (fewer first b.known) (plans_on e c)) where
+plan_below : (left : ℕ) (first : Bool) (d e : Draft) (c : Cache) (x : NextRun) → IsBehind first d e → Plans e c x → IsBelow (with_walk left first d) x
+plan_below left first d e c x b plans =
+    most_below (walks_and_writes (behind_of first d) e.writes) (with_walk left first d) x (room left (behind_of first d * walk_calls) (written_calls e.writes) (written_calls d.writes) (same_written d.writes e.writes b.same))
+    (plan_most e c x (behind_of first d) b.within (fewer first b.known) plans) where
       room : (a k u v : ℕ) → u ≡ v → k + u < (a + 1) + (k + v)
       room a k u v e = omega (arith, e)
 
@@ -134,27 +136,13 @@ goes_below left first d w c less = on first where
       subst (λ (k : ℕ). (walk_left w + 1) + ((k - 1) * walk_calls + written_calls (pruned_behind d w c).writes) < with_walk left false d) (sym unknown_so)
       (less_walk (walk_left w) left ((unknown d - 1) * walk_calls) (written_calls (pruned_behind d w c).writes) (written_calls d.writes) less (same_written d.writes (pruned_behind d w c).writes same))
 
-stopped_below : (left : ℕ) (first : Bool) (d : Draft) (w : Walk) (c : Cache) (t : Trouble) → KnowsNoMore d → (first ≡ false → length d.plan.pages < length d.writes.changes)
-    → IsBelow (with_walk left first d) (walk_stopped first (pruned_behind d w c) c t)
-stopped_below left first d w c t within room = on (is_stale t) where
-  troubled_so : (u : Trouble) → IsBelow (with_walk left first d) (troubled (pruned_behind d w c) c u)
-  troubled_so trouble.Memory = tt
-  troubled_so u = tt
-
-  stale : (b : Bool) → (b ≡ false → length d.plan.pages < length d.writes.changes) → IsBelow (with_walk left b d) (stale_at b (pruned_behind d w c) c)
-  stale true room = plan_below left true d (pruned_behind d w c) c (pruned_past d w c within)
-  stale false room = plan_below left false d (paged (pruned_behind d w c) 1) c (paged_behind d w c (room refl))
-
-  on : (b : Bool) → IsBelow (with_walk left first d) (if b then stale_at first (pruned_behind d w c) c else troubled (pruned_behind d w c) c t)
-  on true = stale first room
-  on false = troubled_so t
-
-turned_below : (left : ℕ) (first : Bool) (d : Draft) (w : Walk) (c : Cache) (turn : Turn ℕ) → KnowsNoMore d → (first ≡ false → length d.plan.pages < length d.writes.changes) → (turn ≡ More → walk_left w < left)
-    → ((page : ℕ) → turn ≡ Ended page → (first ≡ false → next_target d ≡ Some (w.tree, sought w)) × IsAtLeaf w c page) → IsBelow (with_walk left first d) (walk_turned first d w c turn)
-turned_below left first d w c More within room less ends = goes_below left first d w c (less refl)
-turned_below left first d w c (Ended page) within room less ends =
-    plan_below left first d (leaf_noted (pruned_behind d w c) w c page) c (noted_behind first d w c page within (ends page refl).0 (ends page refl).1)
-turned_below left first d w c (Stopped t) within room less ends = stopped_below left first d w c t within room
+turn_below : (left : ℕ) (first : Bool) (d : Draft) (w : Walk) (c : Cache) (a : Answer) (x : NextRun) → KnowsNoMore d → (first ≡ false → next_target d ≡ Some (w.tree, sought w))
+    → ((m : Walk × Cache) → walk_next (w, c) a ≡ Goes m → walk_left m.0 < left) → ((m : Walk × Cache) (page : ℕ) → walk_next (w, c) a ≡ Ends m page → IsAtLeaf m.0 m.1 page)
+    → Comes d w c a first x → IsBelow (with_walk left first d) x
+turn_below left first d w c a x within target less ends (step.goes m e is aims) = goes_below left first d m.0 m.1 (less m e)
+turn_below left first d w c a x within target less ends (step.ends m t e fresh other) = tt
+turn_below left first d w c a x within target less ends (step.lacks m e) = tt
+turn_below left first d w c a x within target less ends (step.plans e k y from plans) = plan_below left first d e k x (behind_pages d w c a first e k within target ends from) plans
 
 held_within : (first : Bool) (d : Draft) (w : Walk) → IsHeld d (held first w) → KnowsNoMore d
 held_within true d w is = is.1
@@ -171,19 +159,37 @@ held_with false d w = refl
 led_below : (k : ℕ) (x : NextRun) (n : Run × Cache) (result : Turn CommitAnswer) → IsBelow k x → Led x n result → result ≡ More → calls_left n.0 < k
 led_below k x n result below led more = let At : Turn CommitAnswer → Type 0 = Led x n in subst (IsBelow k) (subst At more led) below
 
+-- where memory did not run out, the code's walk went as the model's
+goes_so : (y : Next (Walk × Cache) ℕ) (k m : Walk × Cache) (turn : Turn ℕ) → Moves y k turn → turn ≢ Stopped trouble.Memory → y ≡ Goes m → (turn ≡ More) × (k ≡ m)
+goes_so y k m More moves found e = (refl, cc (moves, e))
+goes_so y k m (Ended page) moves found e = absurd (cc (moves, e))
+goes_so y k m (Stopped t) moves found e = absurd (let stops = moves (λ memory. found (ap Stopped memory)) in cc (stops, e))
+
+ends_so : (y : Next (Walk × Cache) ℕ) (k m : Walk × Cache) (page : ℕ) (turn : Turn ℕ) → Moves y k turn → turn ≢ Stopped trouble.Memory → y ≡ Ends m page → (turn ≡ Ended page) × (k ≡ m)
+ends_so y k m page More moves found e = absurd (cc (moves, e))
+ends_so y k m page (Ended other) moves found e = let same : other ≡ page = cc (moves, e) in (ap Ended same, cc (moves, e))
+ends_so y k m page (Stopped t) moves found e = absurd (let stops = moves (λ memory. found (ap Stopped memory)) in cc (stops, e))
+
 -- it leaves fewer calls
-pub walk_less : (first : Bool) (d : Draft) (from w : Walk) (e : Cache) (turn : Turn ℕ) (n : Run × Cache) (result : Turn CommitAnswer) → IsHeld d (held first from) → (turn ≢ Stopped trouble.Memory → HasAim from w)
-    → (turn ≡ More → walk_left w < walk_left from) → ((page : ℕ) → turn ≡ Ended page → IsAtLeaf w e page) → Led (walk_turned first d w e turn) n result → result ≡ More
-    → calls_left n.0 < left_at (held first from) d
-walk_less first d from w e turn n result is aim less ends led more =
+pub walk_less : (first : Bool) (d : Draft) (from : Walk) (c : Cache) (a : Answer) (k : Walk × Cache) (turn : Turn ℕ) (n : Run × Cache) (result : Turn CommitAnswer) → IsHeld d (held first from)
+    → Took (LeadsBy walk_next) KeepsServed (from, c) a k turn → (turn ≡ Stopped trouble.Memory → result ≡ Stopped trouble.Memory) → (turn ≡ More → walk_left k.0 < walk_left from)
+    → ((page : ℕ) → turn ≡ Ended page → IsAtLeaf k.0 k.1 page) → Led (walk_turned first d k.0 k.1 turn) n result → result ≡ More → calls_left n.0 < left_at (held first from) d
+walk_less first d from c a k turn n result is took memory less ends led more =
     subst (λ (k : ℕ). calls_left n.0 < k) (sym (held_with first d from))
-    (led_below (with_walk (walk_left from) first d) (walk_turned first d w e turn) n result
-    (turned_below (walk_left from) first d w e turn (held_within first d from is) (λ change. one_left d (from.tree, sought from) (held_target first d from is change)) less (λ page over. (target page over, ends page over)))
-    led more) where
-      target : (page : ℕ) → turn ≡ Ended page → first ≡ false → next_target d ≡ Some (w.tree, sought w)
-      target page over change =
-          let same : HasAim from w = aim (λ stopped. absurd (cc (over, stopped))) in
-          held_target first d from is change ∙ ap Some (same_target from.tree from.key w (same.tree, same.key))
+    (led_below (with_walk (walk_left from) first d) (walked first d from c a) n result
+    (turn_below (walk_left from) first d from c a (walked first d from c a) (held_within first d from is) (held_target first d from is) fewer at_leaf (comes d from c a first))
+    (by_turn_led (walk_turned first d) (walk_next (from, c) a) k.0 k.1 turn n result moves memory led) more) where
+      moves : Moves (walk_next (from, c) a) k turn
+      moves = took_moves (from, c) a k turn took
+
+      found : turn ≢ Stopped trouble.Memory
+      found lacks = let stops = memory lacks in cc (stops, more)
+
+      fewer : (m : Walk × Cache) → walk_next (from, c) a ≡ Goes m → walk_left m.0 < walk_left from
+      fewer m e = let so = goes_so (walk_next (from, c) a) k m turn moves found e in subst (λ (v : Walk × Cache). walk_left v.0 < walk_left from) so.1 (less so.0)
+
+      at_leaf : (m : Walk × Cache) (page : ℕ) → walk_next (from, c) a ≡ Ends m page → IsAtLeaf m.0 m.1 page
+      at_leaf m page e = let so = ends_so (walk_next (from, c) a) k m page turn moves found e in subst (λ (v : Walk × Cache). IsAtLeaf v.0 v.1 page) so.1 (ends page so.0)
 
 -- ---- at the beginning
 

@@ -11,13 +11,13 @@ use Rattle.commit_writes.proofs.Within.{went_within}
 use Rattle.commit_run.specs.Draft.{KnowsNoMore}
 use Rattle.commit_run.specs.Run.{next_at}
 use Rattle.commit_run.specs.Within.{AreOfWalk, joined, IsNoGet, RunsWithin, Within}
-use Rattle.commit_run.proofs.Words.{CommitAnswer, AtomicRec, Noted, Answer, Next, Goes, Ends, Stops, LeadsBy, Came, Deed, Home, Cache, Walk, IsWalk, sought, new_walk, walk_ask, walk_ready, walk_next, Writing, waiting, with_attempt, begun, writing_ask, writing_next, Stage, Waiting, Logging, Opening, Sending, Settling, Deleting, Finished, Calls, told, routed_length, Hand, Writes, First, Change, Draft, pruned_behind, planned, Run, held, new_run, target_of, next_target, asks, ask_at, written, wrote, walked, run_ready, run_next, Use, used_in, uses_of, walked_home, GetsNothing}
+use Rattle.commit_run.proofs.Words.{CommitAnswer, AtomicRec, Noted, Answer, Next, Goes, Ends, Stops, LeadsBy, Came, Deed, Home, Cache, Walk, sought, new_walk, walk_ask, walk_ready, walk_next, Writing, waiting, with_attempt, begun, writing_ask, writing_next, Stage, Waiting, Logging, Opening, Sending, Settling, Deleting, Finished, Calls, told, routed_length, Hand, Writes, First, Change, Draft, pruned_behind, planned, Run, held, new_run, target_of, asks, ask_at, written, wrote, walked, run_ready, run_next, Use, used_in, uses_of, walked_home, GetsNothing}
 use Rattle.commit_run.proofs.Knows.{KnowsHeld, KnowsAt}
-use Rattle.commit_run.proofs.Hands.{all_known, one_left, same_target}
+use Rattle.commit_run.proofs.Hands.{all_known, one_left}
 use Rattle.commit_run.proofs.Planning.{planned_within}
 use Rattle.commit_run.proofs.Outcomes as step
 use Rattle.commit_run.proofs.Outcomes.{NextRun, records_of, Begins, Plans, Behind, Comes, Starts, comes, starts}
-use Rattle.commit_run.proofs.Pages.{known_then, IsBehind, noted_behind, paged_behind, pruned_past}
+use Rattle.commit_run.proofs.Pages.{known_then, IsBehind, behind_pages}
 use Rattle.commit_run.proofs.Walked.{knows_pruned}
 use Rattle.commit_run.proofs.Meaning.{came_knows, follows_part}
 
@@ -169,13 +169,6 @@ walk_on few h x m e g asked made follows goes = record {
   came = (m, g.came, asked, made, goes, follows_part g.own (joined g.walks) x (subst (λ (l : List Deed). Follows l x) g.are follows));
 }
 
-behind_pages : (d : Draft) (w : Walk) (c : Cache) (a : Answer) (first : Bool) (e : Draft) (k : Cache) → IsWalk w → KnowsNoMore d → (first ≡ false → next_target d ≡ Some (w.tree, sought w)) → Behind d w c a first e k
-    → IsBehind first d e
-behind_pages d w c a first e k ok within target (step.at_leaf one m page ended aims) =
-    noted_behind first d m.0 m.1 page within (λ change. target change ∙ ap Some (same_target w.tree w.key m.0 aims)) (ends_at (w, c) m a page ok ended)
-behind_pages d w c a first e k ok within target (step.at_stale m t stopped is) = paged_behind d m.0 m.1 (one_left d (w.tree, sought w) (target refl))
-behind_pages d w c a first e k ok within target (step.passed_over m t stopped is) = pruned_past d m.0 m.1 within
-
 behind_plain : (home : Home) (changes : List Noted) (begin : Cache) (calls : Calls) (d : Draft) (w : Walk) (c : Cache) (a : Answer) (first : Bool) (e : Draft) (b : Cache) → KnowsHeld home changes begin calls d first (w, c) → KnowsNoMore e
     → Behind d w c a first e b → IsPlain (length changes) e
 behind_plain home changes begin calls d w c a first e b k within from = let to = left first e b from in record { home = to.0; changes = changes; writes = to.1; many = refl; within = within } where
@@ -202,7 +195,7 @@ turned_groups home changes begin calls h first d w c x k g asked made follows = 
   on y (step.ends m t e is other) = tt
   on y (step.lacks m e) = tt
   on y (step.plans e b z from p) =
-      let so : IsBehind first d e = behind_pages d w c x.answer first e b k.is k.draft.within k.aimed from in
+      let so : IsBehind first d e = behind_pages d w c x.answer first e b k.draft.within k.aimed (λ m page ended. ends_at (w, c) m x.answer page k.is ended) from in
       plan_groups (length changes) (few_before first d + 1) (x ∷ h) e b y (behind_plain home changes begin calls d w c x.answer first e b k so.within from) (few_known first (length (planned e).plan.pages) so.known)
       (walk_made (few_before first d) h x (w, c) g asked) p
 

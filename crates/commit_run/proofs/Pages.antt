@@ -6,8 +6,10 @@ use Rattle.leaf_view.specs.Lookup.{holds}
 use Rattle.commit_run.specs.Ended.{page_at as ended_page}
 use Rattle.commit_run.specs.Plan.{Plan}
 use Rattle.commit_run.specs.Draft.{KnowsNoMore, with_kept}
-use Rattle.commit_run.proofs.Words.{Leaf, Noted, Cache, leaf_at, Walk, IsAtLeaf, sought, object_of, ended_of, pages_of, Draft, pruned_behind, planned, leaf_noted, paged, target_of, next_target}
-use Rattle.commit_run.proofs.Outcomes.{HasKept, used_kept}
+use Rattle.commit_run.proofs.Words.{Leaf, Noted, Answer, Ends, Cache, leaf_at, Walk, IsAtLeaf, sought, object_of, walk_next, ended_of, pages_of, Draft, pruned_behind, planned, leaf_noted, paged, target_of, next_target}
+use Rattle.commit_run.proofs.Hands.{one_left, same_target}
+use Rattle.commit_run.proofs.Outcomes as step
+use Rattle.commit_run.proofs.Outcomes.{HasKept, used_kept, Behind}
 use Rattle.commit_run.proofs.Finding.{held_spans, found_last, next_found}
 
 behind_target : (d : Draft) (w : Walk) (c : Cache) → next_target (pruned_behind d w c) ≡ next_target d
@@ -42,7 +44,7 @@ pub record IsBehind (first : Bool) (d e : Draft) : Type 0 where
   pub within : KnowsNoMore e
   pub known : known_then first d ≤ length (planned e).plan.pages
 
-pub noted_behind : (first : Bool) (d : Draft) (w : Walk) (c : Cache) (page : ℕ) → KnowsNoMore d → (first ≡ false → next_target d ≡ Some (w.tree, sought w)) → IsAtLeaf w c page
+noted_behind : (first : Bool) (d : Draft) (w : Walk) (c : Cache) (page : ℕ) → KnowsNoMore d → (first ≡ false → next_target d ≡ Some (w.tree, sought w)) → IsAtLeaf w c page
     → IsBehind first d (leaf_noted (pruned_behind d w c) w c page)
 noted_behind first d w c page within target at = record { same = same; within = omega (arith, within, pages, ap length same.changes); known = on first target } where
   e : Draft
@@ -59,13 +61,20 @@ noted_behind first d w c page within target at = record { same = same; within = 
   on false to =
       omega (arith, pages, planned_more e 1 (noted_finds (pruned_behind d w c) w.tree page (sought w) at.leaf (leaf_at c (object_of w)) (ap (leaf_at c) at.in_hand ∙ at.kept) at.holds (behind_target d w c ∙ to refl)))
 
-pub paged_behind : (d : Draft) (w : Walk) (c : Cache) → length d.plan.pages < length d.writes.changes → IsBehind false d (paged (pruned_behind d w c) 1)
+paged_behind : (d : Draft) (w : Walk) (c : Cache) → length d.plan.pages < length d.writes.changes → IsBehind false d (paged (pruned_behind d w c) 1)
 paged_behind d w c room =
     let same : HasKept d.writes (pruned_behind d w c).writes = used_kept d.writes c w.used in
     let pages : length (d.plan.pages ++ 1 ∷ []) ≡ length d.plan.pages + 1 = length-append d.plan.pages (1 ∷ []) in
     record { same = same; within = omega (arith, room, pages, ap length same.changes); known = omega (arith, pages, planned_more (paged (pruned_behind d w c) 1) 0 (omega arith)) }
 
-pub pruned_past : (d : Draft) (w : Walk) (c : Cache) → KnowsNoMore d → IsBehind true d (pruned_behind d w c)
+pruned_past : (d : Draft) (w : Walk) (c : Cache) → KnowsNoMore d → IsBehind true d (pruned_behind d w c)
 pruned_past d w c within =
     let same : HasKept d.writes (pruned_behind d w c).writes = used_kept d.writes c w.used in
     record { same = same; within = omega (arith, within, ap length same.changes); known = omega (arith, planned_more (pruned_behind d w c) 0 (omega arith)) }
+
+pub behind_pages : (d : Draft) (w : Walk) (c : Cache) (a : Answer) (first : Bool) (e : Draft) (k : Cache) → KnowsNoMore d → (first ≡ false → next_target d ≡ Some (w.tree, sought w))
+    → ((m : Walk × Cache) (page : ℕ) → walk_next (w, c) a ≡ Ends m page → IsAtLeaf m.0 m.1 page) → Behind d w c a first e k → IsBehind first d e
+behind_pages d w c a first e k within target ends (step.at_leaf one m page ended aims) =
+    noted_behind first d m.0 m.1 page within (λ change. target change ∙ ap Some (same_target w.tree w.key m.0 aims)) (ends m page ended)
+behind_pages d w c a first e k within target ends (step.at_stale m t stopped is) = paged_behind d m.0 m.1 (one_left d (w.tree, sought w) (target refl))
+behind_pages d w c a first e k within target ends (step.passed_over m t stopped is) = pruned_past d m.0 m.1 within

@@ -23,5 +23,6 @@ returns-clause-stepped g c =
 
 pub returns-clause-less : goal.returns-clause-less
 returns-clause-less g c =
-    walk_less c.args.first c.args.self.now c.args.walk c.step-turn.new.self c.step-turn.new.cache c.step-turn.result _ _ c.requires c.step-turn.ensures.stepped.aim c.step-turn.ensures.less c.step-turn.ensures.ends
-    c.walked.ensures.led
+    let stepped = c.step-turn.ensures.stepped in
+    walk_less c.args.first c.args.self.now c.args.walk c.args.cache.now stepped.answer (c.step-turn.new.self, c.step-turn.new.cache) c.step-turn.result _ _ c.requires stepped.took c.walked.ensures.memory
+    c.step-turn.ensures.less c.step-turn.ensures.ends c.walked.ensures.led

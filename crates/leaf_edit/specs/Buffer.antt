@@ -1,5 +1,5 @@
 -- A leaf that is its bytes.
-use Rattle.std.specs.Prelude.{◌≡◌, ℕ, List, Result, Ok, Err}
+use Rattle.std.specs.Prelude.{◌≡◌, ℕ, List, length, Result, Ok, Err}
 use Rattle.byte_format.specs.Whole.{whole}
 use Rattle.leaf_view.specs.Leaf.{Leaf, IsLeaf, leaf}
 use Rattle.leaf_view.specs.Lookup.{empty_leaf}
@@ -16,3 +16,8 @@ leaf_in bytes = leaf_from (whole leaf bytes)
 pub record IsWritten (bytes : List ℕ) : Type 0 where
   pub spelled : IsLeaf bytes (leaf_in bytes)
   pub format : (leaf_in bytes).format ≡ 2
+
+-- they do, and the leaf has so many records
+pub record IsBuffer (bytes : List ℕ) (count : ℕ) : Type 0 where
+  pub written : IsWritten bytes
+  pub counted : count ≡ length (leaf_in bytes).records

@@ -9,23 +9,25 @@ use std::marker::Model;
 /// A leaf that owns the bytes that spell it, in format 2: the one in which leaves are written.
 pub struct LeafBuf {
     bytes: Vec<u8>,
+    // How many records it has, so that they are counted once.
+    count: usize,
 }
 
 impl Drop for LeafBuf {
     fn drop(self) {
-        let LeafBuf { bytes: _ } = self;
+        let LeafBuf { bytes: _, count: _ } = self;
     }
 }
 
 impl Model for LeafBuf {
     ghost use Rattle.leaf_view.specs.Leaf.{Leaf};
-    ghost use Rattle.leaf_edit.specs.Buffer.{leaf_in, IsWritten};
+    ghost use Rattle.leaf_edit.specs.Buffer.{leaf_in, IsBuffer};
 
     ghost Value = { Leaf };
 
     ghost view = { λ b. leaf_in b.bytes.items };
 
-    ghost invariant = { λ b. IsWritten b.bytes.items };
+    ghost invariant = { λ b. IsBuffer b.bytes.items b.count };
 }
 
 impl LeafBuf {
@@ -40,7 +42,8 @@ impl LeafBuf {
         requires { IsWritten bytes.items }
         ensures { result ≡ leaf_in bytes.items }
     {
-        LeafBuf { bytes }
+        let count = LeafView::known(&bytes).records().len();
+        LeafBuf { bytes, count }
     }
 
     /// The leaf, borrowed.
@@ -56,7 +59,7 @@ impl LeafBuf {
     pub fn len(&self) -> usize
         ensures { result ≡ length self.now.records }
     {
-        self.view().records().len()
+        self.count
     }
 
     /// A copy of its spelling. Refused for memory alone.
@@ -72,7 +75,7 @@ impl LeafBuf {
         ensures leaf { IsLeaf result self }
         ensures format { self.format ≡ 2 }
     {
-        let LeafBuf { bytes } = self;
+        let LeafBuf { bytes, count: _ } = self;
         Blob::of(bytes)
     }
 }

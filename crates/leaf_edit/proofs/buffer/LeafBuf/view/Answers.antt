@@ -7,7 +7,7 @@ use Rattle.leaf_edit.proofs.Spelled.{leaf_in_is}
 use Rattle.leaf_edit.proofs.buffer.LeafBuf.view.Goals as goal
 
 pub known-requires : goal.known-requires
-known-requires c = (leaf_in c.self.inside.bytes.items, rw c.deref.ensures.value c.self.invariant.spelled)
+known-requires c = (leaf_in c.self.inside.bytes.items, rw c.deref.ensures.value c.self.invariant.written.spelled)
 
 pub returns-clause-view : goal.returns-clause-view
 returns-clause-view c =
@@ -17,9 +17,9 @@ returns-clause-view c =
 pub returns-clause-format : goal.returns-clause-format
 returns-clause-format c =
     let P : Leaf → Type 0 = λ l. l.format ≡ 2 in
-    subst P c.self.view_is c.self.invariant.format
+    subst P c.self.view_is c.self.invariant.written.format
 
 pub returns-clause-version : goal.returns-clause-version
 returns-clause-version c =
     let P : Leaf → Type 0 = λ l. IsVersion l.version in
-    subst P c.self.view_is (leaf_fits _ c.self.invariant.spelled.fits).0
+    subst P c.self.view_is (leaf_fits _ c.self.invariant.written.spelled.fits).0

@@ -1,6 +1,8 @@
 -- Laws of the records of a commit.
-use Rattle.std.proofs.Common.{◌≡◌, ℕ, ◌+◌, ◌-◌, ◌^◌, ◌<◌, ◌≤◌, List, [], ◌∷◌, ◌++◌, length, drop, Some, None, ap, sym, ◌∙◌, subst, arith, append_assoc, length-append, slice_index_or}
-use Rattle.std.specs.Prelude.{slice_get}
+use Rattle.std.proofs.Common.{◌≡◌, ℕ, ◌+◌, ◌-◌, ◌^◌, ◌<◌, ◌≤◌, true, cond, refl, List, [], ◌∷◌, ◌++◌, length, drop, Some, None, ap, sym, ◌∙◌, subst, arith, append_assoc, length-append, slice_index_or}
+use Rattle.std.specs.Prelude.{◌==◌, ◌&&◌, count_by, slice_get}
+use Rattle.std.proofs.lemmas.Bool.Decides.{nat_tests}
+use Rattle.std.proofs.lemmas.List.Sums.{sum_by_push}
 use Rattle.std.proofs.lemmas.List.{append-nil}
 use Rattle.std.proofs.lemmas.List.Elements.{All-push}
 use Rattle.std.proofs.lemmas.Option.{slice_get_within}
@@ -9,7 +11,7 @@ use Rattle.head_codec.specs.declared.head.Head.{Head}
 use Rattle.log_codec.specs.declared.record.AtomicRec.{AtomicRec}
 use Rattle.txn_buffer.specs.Noted.{Noted}
 use Rattle.route_plan.specs.Queue.{queue_of}
-use Rattle.route_plan.specs.Route.{next_number, record_behind, routed, routed_behind, AllFit, PassesGreatest, transaction}
+use Rattle.route_plan.specs.Route.{goes_to, next_number, record_behind, routed, routed_behind, AllFit, PassesGreatest, transaction}
 use Rattle.route_plan.proofs.Places.{drop-at, drop-here, past_none, Any-middle}
 
 -- the records so far, with those of the changes that are left behind them, are those of the commit
@@ -99,6 +101,31 @@ passes client epoch txn count head changes leaves records earlier n m noted leaf
     (routed-passes client epoch txn count head changes leaves records noted leaf same h (subst (λ k. slice_get changes k ≡ Some noted) en here)
     (sym (subst (λ k. leaf ≡ slice_index_or leaves k leaf) em at))
     (subst (λ l. 2 ^ 64 ≤ next_number head l noted.tree (queue_of head.pending noted.tree noted.change leaf)) ee over))
+
+-- behind a new record the next one of its queue has the number behind its own
+newest-at : (head : Head) (earlier records new : List AtomicRec) (client epoch txn count : ℕ) (noted : Noted) (leaf : ℕ) (r : AtomicRec)
+    → r ≡ record_behind (transaction client epoch txn count) head earlier noted leaf → earlier ≡ records → new ≡ records ++ r ∷ []
+    → next_number head new r.tree r.page ≡ r.number + 1
+newest-at head earlier records new client epoch txn count noted leaf r is ee enew =
+    ap (λ l. next_number head l r.tree r.page) enew ∙ omega (arith, own, more)
+  where
+    own : r.number ≡ next_number head records r.tree r.page
+    own = subst (λ l. r.number ≡ next_number head l r.tree r.page) ee
+        (subst (λ (q : AtomicRec). q.number ≡ next_number head earlier q.tree q.page) (sym is) refl)
+
+    here : (tree page : ℕ) → ((tree == tree) && (page == page)) ≡ true
+    here tree page = grind (arith, nat_tests)
+
+    more : count_by (goes_to r.tree r.page) (records ++ r ∷ []) ≡ count_by (goes_to r.tree r.page) records + 1
+    more = sum_by_push (λ q. cond (goes_to r.tree r.page q) 1 0) records r
+        ∙ ap (λ b. count_by (goes_to r.tree r.page) records + cond b 1 0) (here r.tree r.page)
+
+pub newest-number : (head : Head) (earlier records new : List AtomicRec) (client epoch txn count : ℕ) (noted : Noted) (leaf : ℕ) (r : AtomicRec) (tree page number : ℕ)
+    → r ≡ record_behind (transaction client epoch txn count) head earlier noted leaf → earlier ≡ records → new ≡ records ++ r ∷ []
+    → tree ≡ r.tree → page ≡ r.page → number ≡ r.number → next_number head new tree page ≡ number + 1
+newest-number head earlier records new client epoch txn count noted leaf r tree page number is ee enew et ep en =
+    ap (λ t. next_number head new t page) et ∙ (ap (λ p. next_number head new r.tree p) ep
+    ∙ (newest-at head earlier records new client epoch txn count noted leaf r is ee enew ∙ ap (λ n. n + 1) (sym en)))
 
 -- fewer are left
 pub fewer : (changes : List Noted) (records new : List AtomicRec) (n : ℕ) (noted : Noted) (r : AtomicRec) → n ≡ length records

@@ -1,4 +1,4 @@
-ghost use Rattle.std.specs.Prelude.{◌≡◌, ◌⊎◌, [], ◌∷◌, ◌++◌, length, ◌≤◌, ◌+◌, ◌<◌, ◌^◌, IfOk, IfErr, OnOk, MatchOption};
+ghost use Rattle.std.specs.Prelude.{◌≡◌, ◌⊎◌, [], ◌∷◌, ◌++◌, length, ◌≤◌, ◌+◌, ◌<◌, ◌^◌, IfOk, IfErr, IfSome, OnOk, MatchOption};
 ghost use Rattle.db_base.specs.Limits.{most_changes};
 ghost use Rattle.txn_buffer.specs.Noted.{Noted};
 ghost use Rattle.route_plan.specs.Queue.{queue_of};
@@ -23,8 +23,50 @@ struct Commit {
     count: u8,
 }
 
+/// The queue of the newest record of a commit, and its number there: where the next record is of the same queue, those before are not counted.
+#[derive(Clone, Copy)]
+struct Newest {
+    tree: TreeId,
+    page: u64,
+    number: u64,
+}
+
+/// What is noted of the newest record.
+fn newest_of(r: &AtomicRec) -> Newest
+    ensures tree { result.tree ≡ r.now.tree }
+    ensures page { result.page ≡ r.now.page }
+    ensures number { result.number ≡ r.now.number }
+{
+    Newest {
+        tree: r.tree,
+        page: r.page,
+        number: r.number,
+    }
+}
+
 /// The number of the next record of a queue behind the earlier records of the commit; nothing where it would pass the greatest u64.
-fn next_number(head: &Head, earlier: &[AtomicRec], tree: TreeId, page: u64) -> Option<u64>
+fn next_number(
+    head: &Head,
+    earlier: &[AtomicRec],
+    newest: Option<Newest>,
+    tree: TreeId,
+    page: u64,
+) -> Option<u64>
+    requires few { length earlier.now ≤ most_changes }
+    requires newest { IfSome newest (λ n. next_number head.now earlier.now n.tree n.page ≡ n.number + 1) }
+    ensures { MatchOption result (2 ^ 64 ≤ next_number head.now earlier.now tree page)
+        (λ n. (n < 2 ^ 64) × (n ≡ next_number head.now earlier.now tree page)) }
+{
+    match newest {
+        Some(newest) if newest.tree.get() == tree.get() && newest.page == page => {
+            newest.number.checked_add(1)
+        }
+        _ => counted_number(head, earlier, tree, page),
+    }
+}
+
+/// The same, the earlier records counted.
+fn counted_number(head: &Head, earlier: &[AtomicRec], tree: TreeId, page: u64) -> Option<u64>
     requires { length earlier.now ≤ most_changes }
     ensures { MatchOption result (2 ^ 64 ≤ next_number head.now earlier.now tree page)
         (λ n. (n < 2 ^ 64) × (n ≡ next_number head.now earlier.now tree page)) }
@@ -44,11 +86,13 @@ fn record_behind(
     head: &Head,
     index: &PendingIndex<'_>,
     earlier: &[AtomicRec],
+    newest: Option<Newest>,
     tree: TreeId,
     change: &Change,
     leaf: PageId,
 ) -> Result<AtomicRec, Trouble>
     requires few { length earlier.now < most_changes }
+    requires newest { IfSome newest (λ n. next_number head.now earlier.now n.tree n.page ≡ n.number + 1) }
     requires index { index.now ≡ head.now.pending }
     ensures ok { IfOk result (λ r. r ≡ record_behind (transaction commit.now.client commit.now.epoch commit.now.txn commit.now.count)
         head.now earlier.now (record { tree = tree; change = change.now }) leaf) }
@@ -57,7 +101,7 @@ fn record_behind(
         × (2 ^ 64 ≤ next_number head.now earlier.now tree (queue_of head.now.pending tree change.now leaf)))) }
 {
     let page = page_of(index, tree, change, leaf);
-    let number = match next_number(head, earlier, tree, page) {
+    let number = match next_number(head, earlier, newest, tree, page) {
         Some(number) => number,
         None => {
             return Err(Trouble::Exhausted {
@@ -129,6 +173,7 @@ pub fn route(
     };
     let index = index_of(alloc, head, changes.len())?;
     let mut records: Vec<AtomicRec> = Vec::new(alloc);
+    let mut newest = None;
     while let Some(noted) = changes.at(records.len()) {
         let leaf = leaves[records.len()];
         let next = record_behind(
@@ -137,10 +182,12 @@ pub fn route(
             head,
             &index,
             records.as_slice(),
+            newest,
             noted.0,
             noted.1,
             leaf,
         )?;
+        newest = Some(newest_of(&next));
         push(&mut records, next)?;
     }
     Ok(records)

@@ -51,6 +51,16 @@ impl Gathering {
         }
     }
 
+    /// Forgets what was gathered. Takes no memory.
+    pub fn clear(&mut self)
+        ensures { self.new ≡ nothing_gathered }
+    {
+        self.kept.clear();
+        self.seen.clear();
+        self.fresh = false;
+        self.lost.clear();
+    }
+
     /// The kept records, in order of index.
     pub fn kept(&self) -> &[AtomicItem]
         ensures items { result.now ≡ self.now.kept }

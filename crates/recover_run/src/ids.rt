@@ -35,6 +35,13 @@ impl IdSet {
         }
     }
 
+    /// Leaves all ids out. Takes no memory.
+    pub fn clear(&mut self)
+        ensures { self.new ≡ [] }
+    {
+        self.ids.clear();
+    }
+
     /// No more ids than memory has places.
     pub fn few(&self)
         ensures { length self.now < 2 ^ 64 }

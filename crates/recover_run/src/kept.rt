@@ -57,6 +57,13 @@ impl Kept {
         }
     }
 
+    /// Keeps nothing any more. Takes no memory.
+    pub fn clear(&mut self)
+        ensures { self.new ≡ [] }
+    {
+        self.items.clear();
+    }
+
     /// The records in order of index.
     pub fn as_slice(&self) -> &[AtomicItem]
         ensures items { result.now ≡ self.now }

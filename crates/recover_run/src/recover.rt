@@ -2,6 +2,7 @@ ghost use Rattle.std.specs.Prelude.{◌≡◌, ◌≤◌, ◌<◌, ◌+◌, ◌^
 ghost use Rattle.std.specs.List.{AllByRecursion};
 ghost use Rattle.head_codec.specs.declared.lists.Pending.{Pending};
 ghost use Rattle.head_codec.specs.Counters.{AreCounters};
+ghost use Rattle.head_codec.specs.Head.{empty_head};
 ghost use Rattle.head_codec.specs.Spelling.{HasSpelling, head_of};
 ghost use Rattle.cloud_trait.specs.Ask.{Release};
 ghost use Rattle.cloud_trait.specs.Call.{ask_of, Lends};
@@ -148,6 +149,25 @@ impl RecoverRun {
             out: Blob::new(alloc),
             ending: None,
         }
+    }
+
+    /// Begins the settling of a client where this recovery stands, whose lists keep their room. Takes no memory.
+    pub fn begin_settling(&mut self, alloc: Global, client: ClientId)
+        ensures { self.new ≡ new_recovery client Aim.Settling None }
+    {
+        self.client = client;
+        self.aim = Aim::Settling;
+        self.stage = Stage::Taking;
+        self.former = None;
+        self.lease = None;
+        forget(&mut self.head);
+        self.wanted = Wanted::of(&self.head);
+        self.gathering.clear();
+        self.ids.clear();
+        self.sent = 0;
+        self.swept.clear();
+        self.out = Blob::new(alloc);
+        self.ending = None;
     }
 
     // ---- the call in hand
@@ -698,4 +718,15 @@ impl RecoverRun {
             _ => None,
         }
     }
+}
+
+/// The absent head is there from now on, whose lists keep their room. Takes no memory.
+fn forget(head: &mut Head)
+    ensures { head.new ≡ empty_head }
+{
+    head.epoch = 0;
+    head.txn = 0;
+    head.phase = Phase::Settled;
+    head.counters.truncate(0);
+    head.pending.truncate(0);
 }

@@ -50,7 +50,7 @@ impl Part {
         match self {
             Part::Client(at, machine) => {
                 *at = client;
-                *machine = RecoverRun::new(alloc, client, Aim::Settling, None);
+                machine.begin_settling(alloc, client);
             }
             _ => put(self, Part::client(alloc, client)),
         }

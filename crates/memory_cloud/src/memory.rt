@@ -3,7 +3,7 @@ ghost use Rattle.std.specs.Option.{option_copied};
 ghost use Rattle.memory_cloud.specs.Memory.{planter};
 
 use crate::mood::Mood;
-use crate::store::{Last, Store};
+use crate::store::Store;
 use crate::{copies, objects, queues};
 use cloud_trait::fault::CloudFault;
 use cloud_trait::who::Who;
@@ -11,7 +11,6 @@ use db_base::ids::{MsgId, SessionNo};
 use db_base::names::{ObjName, QueueName};
 use db_base::wish::Wish;
 use std::alloc::Global;
-use std::mem;
 
 /// A cloud in memory. It obeys the wishes that are set, and tells its state until foreign bytes are planted in it.
 pub struct MemoryCloud {
@@ -148,8 +147,7 @@ impl MemoryCloud {
     {
         self.calls = self.calls.saturating_add(1);
         let mood = self.mood();
-        let wish = mem::replace(&mut self.store.wish, Wish::Plain);
-        self.store.last = Some(Last { who, wish });
+        self.store.spend_wish(who);
         mood
     }
 

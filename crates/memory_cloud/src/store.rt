@@ -1,4 +1,4 @@
-ghost use Rattle.std.specs.Prelude.{◌≡◌, ◌+◌, ◌<◌, ◌∷◌, [], true, OnOk, OnErr, IfOk, IfSome, IfNone, length};
+ghost use Rattle.std.specs.Prelude.{◌≡◌, ◌+◌, ◌<◌, ◌∷◌, [], true, OnOk, OnErr, IfOk, IfSome, IfNone, IsTrue, length};
 ghost use Rattle.std.specs.Option.{option_copied};
 ghost use Rattle.memory_cloud.specs.Outcome.{positions_in};
 
@@ -16,6 +16,7 @@ use db_base::names::{Lock, ObjName, QueueName};
 use db_base::wish::Wish;
 use std::alloc::{AllocError, Global};
 use std::collections::BTreeMap;
+use std::mem;
 
 /// The newest service call: who made it, and under which wish.
 #[derive(Debug, Drop)]
@@ -63,7 +64,7 @@ impl Drop for Store {
 
 impl Store {
     ghost use Rattle.db_base.specs.declared.wish.Wish.TheVariants.{Plain};
-    ghost use Rattle.cloud_trait.specs.State.{IsEmptyCloud, stored, landed, removed, sent, deleted, held_so, taken, lease_given, moved, released, greatest};
+    ghost use Rattle.cloud_trait.specs.State.{IsEmptyCloud, called, stored, landed, removed, sent, deleted, held_so, taken, lease_given, moved, released, greatest};
     ghost use Rattle.cloud_trait.specs.Listing.{IsListing};
     ghost use Rattle.memory_cloud.specs.Outcome.{one_fault, one_withheld, one_stale, is_free, positions_of};
     ghost use Rattle.memory_cloud.specs.Memory.{store_state, store_counts};
@@ -91,6 +92,23 @@ impl Store {
             withheld: 0,
             stale: 0,
         }
+    }
+
+    /// A service call begins, and spends the wish. Where neither it nor the newest one has a wish, only the caller is written.
+    pub fn spend_wish(&mut self, who: Who)
+        ensures state { store_state self.new ≡ called who (store_state self.old).now (store_state self.old) }
+        ensures counts { store_counts self.new ≡ store_counts self.old }
+    {
+        if is_plain(&self.wish) {
+            if let Some(last) = &mut self.last {
+                if is_plain(&last.wish) {
+                    last.who = who;
+                    return;
+                }
+            }
+        }
+        let wish = mem::replace(&mut self.wish, Wish::Plain);
+        self.last = Some(Last { who, wish });
     }
 
     /// Lands bytes as the newest version of an object.
@@ -248,6 +266,16 @@ impl Store {
             Some(last) => positions_in(&last.wish),
             None => &[],
         }
+    }
+}
+
+// Whether a wish leaves its call as it is.
+fn is_plain(wish: &Wish) -> bool
+    ensures { IsTrue result → wish.now ≡ Wish.Plain }
+{
+    match wish {
+        Wish::Plain => true,
+        _ => false,
     }
 }
 

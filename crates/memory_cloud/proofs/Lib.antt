@@ -1,3 +1,4 @@
+pub mod LockLemmas
 pub mod OutcomeLemmas
 pub mod PagesLemmas
 pub mod QueueLemmas

@@ -82,7 +82,7 @@ impl Store {
             alloc,
             objects: BTreeMap::new(alloc),
             queues: BTreeMap::new(alloc),
-            locks: BTreeMap::new(alloc),
+            locks: Locks::new(alloc),
             trace: Vec::new(alloc),
             clock: 0,
             waits: 0,

@@ -7,24 +7,26 @@ const MARK: usize = 32;
 /// How far around a place the end of a base is looked for, in bytes.
 const REACH: usize = 8;
 
-/// How many bytes two slices have in common at their front. Compares 64 bytes at a time, then 8, then one.
+/// How many bytes two slices have in common at their front. Compares 512 bytes at a time, then 64, then 8, then one.
 pub fn common_front(first: &[u8], second: &[u8]) -> usize
     ensures first { result ≤ length first.now }
     ensures second { result ≤ length second.now }
     ensures same { take result first.now ≡ take result second.now }
 {
-    let blocks = front_from(first, second, 0, 64);
+    let chunks = front_from(first, second, 0, 512);
+    let blocks = front_from(first, second, chunks, 64);
     let words = front_from(first, second, blocks, 8);
     front_from(first, second, words, 1)
 }
 
-/// How many bytes two slices have in common at their back. Compares 64 bytes at a time, then 8, then one.
+/// How many bytes two slices have in common at their back. Compares 512 bytes at a time, then 64, then 8, then one.
 pub fn common_back(first: &[u8], second: &[u8]) -> usize
     ensures first { result ≤ length first.now }
     ensures second { result ≤ length second.now }
     ensures same { SameEnd first.now second.now result }
 {
-    let blocks = back_from(first, second, 0, 64);
+    let chunks = back_from(first, second, 0, 512);
+    let blocks = back_from(first, second, chunks, 64);
     let words = back_from(first, second, blocks, 8);
     back_from(first, second, words, 1)
 }

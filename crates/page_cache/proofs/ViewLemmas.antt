@@ -2,6 +2,7 @@
 use Rattle.std.proofs.Common.{◌≡◌, ℕ, Bool, true, false, List, Option, Some, None, Result, Ok, Err, refl, sym, ap, ◌∙◌}
 use Rattle.std.specs.Result.{result_ok}
 use Rattle.byte_format.specs.Whole.{whole, offset}
+use Rattle.std.proofs.lemmas.Option.{none-some, same_Some}
 use Rattle.byte_format.proofs.Steps.{ok_is, never_err}
 use Rattle.db_base.specs.declared.names.ObjName.TheVariants.{Tree, Page}
 use Rattle.db_base.specs.declared.trouble.Trouble.TheVariants.{Stale}
@@ -30,6 +31,26 @@ inner_of_version bytes n h = of_version (λ (i : Inner). i.version) (offset inne
 root_of_version : (bytes : List ℕ) (n : ℕ) → root_version bytes ≡ Ok n → (t : Root) × (tree_of bytes ≡ Some t) × (t.version ≡ n)
 unfolding root_version tree_of
 root_of_version bytes n h = of_version (λ (t : Root). t.version) (offset tree_format bytes) n (whole tree_format bytes) h
+
+abbrev found : ℕ → Result ℕ ℕ
+found version = Ok version
+
+-- what bytes are read as has the version that is read
+read_so : {A : Type 0} (version : A → ℕ) (at : ℕ) (r : Result A ℕ) (v : A) → result_ok r ≡ Some v → version_or version at r ≡ Ok (version v)
+read_so {A = A} version at (Ok w) v h = ap (λ (x : A). found (version x)) (same_Some w v h)
+read_so {A = A} version at (Err left) v h = absurd (none-some v h)
+
+pub version_of_leaf : (bytes : List ℕ) (l : Leaf) → leaf_in bytes ≡ Some l → leaf_version bytes ≡ Ok l.version
+unfolding leaf_version leaf_in
+version_of_leaf bytes l h = read_so (λ (l : Leaf). l.version) (offset leaf bytes) (whole leaf bytes) l h
+
+pub version_of_inner : (bytes : List ℕ) (n : Inner) → inner_of bytes ≡ Some n → inner_version bytes ≡ Ok n.version
+unfolding inner_version inner_of
+version_of_inner bytes n h = read_so (λ (n : Inner). n.version) (offset inner_format bytes) (whole inner_format bytes) n h
+
+pub version_of_root : (bytes : List ℕ) (t : Root) → tree_of bytes ≡ Some t → root_version bytes ≡ Ok t.version
+unfolding root_version tree_of
+version_of_root bytes t h = read_so (λ (t : Root). t.version) (offset tree_format bytes) (whole tree_format bytes) t h
 
 pub accept_leaf : (c : Cache) (tree page : ℕ) (got : Option (List ℕ)) (version : ℕ) (d : Cache) → accepts c (Page tree page) true got ≡ Ok (version, d)
     → (l : Leaf) × (leaf_at d (Page tree page) ≡ Some l) × (l.version ≡ version)

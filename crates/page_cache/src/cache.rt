@@ -1,11 +1,11 @@
-ghost use Rattle.std.specs.Prelude.{◌≡◌, ◌↔◌, [], length, IfOk, IfErr, IsTrue, is_some, Some, None, Ok};
+ghost use Rattle.std.specs.Prelude.{◌≡◌, ◌↔◌, [], length, IfOk, IfErr, IfSome, IsTrue, is_some, Some, None, Ok};
 ghost use Rattle.page_cache.specs.Cache.{IsCache, empty_cache, kept_at, served_at, placed, served, dropped, Did, accepts, accepts_none, accepts_no_leaf, accepts_leaf, accepts_read, accepts_version};
 ghost use Rattle.page_cache.specs.Held.{leaf_at, inner_at, root_at};
 ghost use Rattle.page_cache.specs.Spelled.{IsSpelled, version_read};
 ghost use Rattle.page_cache.specs.Fetched.{Fetched, Gets};
 
 use crate::objects::Objects;
-use crate::reading::{inner_of, leaf_of, root_of, version_of};
+use crate::reading::{inner_of, known_version, leaf_of, root_of, version_of};
 use crate::versions::Versions;
 use cloud_trait::call::Call;
 use cloud_trait::cloud::Cloud;
@@ -190,11 +190,33 @@ impl PageCache {
         }
     }
 
+    // The version in the bytes of an object, or the offset of their first fault. Bytes that are kept are known, and not read again.
+    fn version_of(&self, name: &ObjName, leaf: bool, bytes: &[u8]) -> Result<u64, u64>
+        ensures version { result ≡ version_read name.now leaf bytes.now }
+        ensures spelled { IfOk result (λ _. IsSpelled name.now (Some bytes.now)) }
+    {
+        match self.known_version(name, leaf, bytes) {
+            Some(version) => Ok(version),
+            None => version_of(name, leaf, bytes),
+        }
+    }
+
+    // The version in the bytes of an object, where they are those that are kept.
+    fn known_version(&self, name: &ObjName, leaf: bool, bytes: &[u8]) -> Option<u64>
+        ensures version { IfSome result (λ version. version_read name.now leaf bytes.now ≡ Ok version) }
+        ensures spelled { IfSome result (λ _. IsSpelled name.now (Some bytes.now)) }
+    {
+        match self.objects.get(name) {
+            Some(Some(kept)) if kept.as_slice() == bytes => known_version(name, leaf, bytes),
+            _ => None,
+        }
+    }
+
     // Takes the bytes of an object.
     fn take_bytes(&mut self, name: &ObjName, bytes: Blob, leaf: bool) -> Result<u64, Trouble>
         ensures { Did (accepts_read self.old name.now leaf bytes (version_read name.now leaf bytes)) self.old self.new result }
     {
-        match version_of(name, leaf, bytes.as_slice()) {
+        match self.version_of(name, leaf, bytes.as_slice()) {
             Ok(version) => self.take_version(name, leaf, bytes, version),
             Err(offset) => Err(Trouble::Damaged {
                 place: Place::Object(*name),

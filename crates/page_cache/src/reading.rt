@@ -1,6 +1,6 @@
 //! The bytes of objects as what they spell.
 
-ghost use Rattle.std.specs.Prelude.{◌≡◌, Some, IfOk};
+ghost use Rattle.std.specs.Prelude.{◌≡◌, Some, Ok, IfOk, IfSome};
 ghost use Rattle.leaf_view.specs.Leaf.{Leaf, IsLeaf};
 ghost use Rattle.node_codec.specs.Inner.{Inner, IsInner, inner_of};
 ghost use Rattle.node_codec.specs.Tree.{Tree as Root, IsTree, tree_of};
@@ -104,4 +104,53 @@ pub(crate) fn version_of(name: &ObjName, leaf: bool, bytes: &[u8]) -> Result<u64
         ObjName::Tree(_) => root_version(bytes),
         ObjName::Head(_) => root_version(bytes),
     }
+}
+
+/// The version in the bytes of an object that are in a spelling of its kind, where they are of what they are read as. The records
+/// of a leaf and the entries of a node are not read.
+pub(crate) fn known_version(name: &ObjName, leaf: bool, bytes: &[u8]) -> Option<u64>
+    requires { IsSpelled name.now (Some bytes.now) }
+    ensures { IfSome result (λ version. version_read name.now leaf bytes.now ≡ Ok version) }
+{
+    match name {
+        ObjName::Page(_, _) => {
+            if leaf {
+                known_leaf_version(bytes)
+            } else {
+                known_node_version(bytes)
+            }
+        }
+        ObjName::Tree(_) => Some(known_root_version(bytes)),
+        ObjName::Head(_) => Some(known_root_version(bytes)),
+    }
+}
+
+/// The version of the leaf that the bytes of a page spell, where they spell one.
+fn known_leaf_version(bytes: &[u8]) -> Option<u64>
+    requires { IsPageSpelled bytes.now }
+    ensures { IfSome result (λ version. leaf_version bytes.now ≡ Ok version) }
+{
+    match leaf_of(bytes) {
+        Some(view) => Some(view.version()),
+        None => None,
+    }
+}
+
+/// The version of the inner node that the bytes of a page spell, where they spell one.
+fn known_node_version(bytes: &[u8]) -> Option<u64>
+    requires { IsPageSpelled bytes.now }
+    ensures { IfSome result (λ version. inner_version bytes.now ≡ Ok version) }
+{
+    match inner_of(bytes) {
+        Some(view) => Some(view.version()),
+        None => None,
+    }
+}
+
+/// The version of the root that the bytes spell.
+fn known_root_version(bytes: &[u8]) -> u64
+    requires { (t : Root) × IsTree bytes.now t }
+    ensures { root_version bytes.now ≡ Ok result }
+{
+    root_of(bytes).version()
 }

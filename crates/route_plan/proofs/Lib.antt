@@ -4,3 +4,4 @@ pub mod Counters
 pub mod Indexes
 pub mod Places
 pub mod Routes
+pub mod Pruning

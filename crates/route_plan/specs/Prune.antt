@@ -1,9 +1,10 @@
 -- The pending entries that a leaf or a root shows to be applied.
-use Rattle.std.specs.Prelude.{ℕ, ◌==◌, ◌&&◌, not, nat_le, Bool, filter}
+use Rattle.std.specs.Prelude.{ℕ, ◌≤◌, ◌%◌, ◌==◌, ◌&&◌, not, nat_le, Bool, List, filter, slice_index}
 use Rattle.db_base.specs.Change.{key_of}
 use Rattle.db_base.specs.Cursor.{number_of}
 use Rattle.head_codec.specs.declared.head.Head.{Head}
 use Rattle.head_codec.specs.declared.lists.Pending.{Pending}
+use Rattle.leaf_view.specs.declared.done.Done.{Done}
 use Rattle.leaf_view.specs.Leaf.{Leaf}
 use Rattle.leaf_view.specs.Lookup.{holds, number_of as done_number}
 use Rattle.node_codec.specs.Tree.{Tree}
@@ -24,3 +25,7 @@ is_covered_by root client tree entry = (entry.tree == tree) && (entry.page == 0)
 -- the head without the entries that the root shows to be applied
 abbrev pub pruned_by_tree : Head → ℕ → ℕ → Tree → Head
 pruned_by_tree head client tree root = record head { pending = filter (λ entry. not (is_covered_by root client tree entry)) head.pending }
+
+-- for each class of queues, by the remainder of the page's number, one that none of the client's numbers is above
+abbrev pub AreMost : List Done → ℕ → List ℕ → Type 0
+AreMost done client most = (queue : ℕ) → done_number done queue client ≤ slice_index most (queue % 64)

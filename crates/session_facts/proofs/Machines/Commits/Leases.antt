@@ -1,11 +1,9 @@
 -- A commit never changes its home's lease.
-use Rattle.std.proofs.Common.{◌≡◌, ℕ, Bool, true, false, cond, List, refl}
+use Rattle.std.proofs.Common.{◌≡◌, refl}
 use Rattle.cloud_facts.specs.Words.{CommitAnswer, Answer, Claim, Next, Goes, Ends, Stops}
-use Rattle.commit_writes.specs.Writing.{Writing, routed_of, passes, not_committed, begun, routing, writing_next}
+use Rattle.commit_writes.specs.Writing.{Writing, writing_next}
 use Rattle.commit_writes.proofs.Outcomes as written
-use Rattle.commit_writes.proofs.Outcomes.{Logs, Comes as Wrote, begins, comes as wrote_by}
-use Rattle.db_base.specs.declared.trouble.Counter.TheVariants as counter
-use Rattle.db_base.specs.declared.trouble.Trouble.TheVariants as trouble
+use Rattle.commit_writes.proofs.Outcomes.{Logs, Comes as Wrote, comes as wrote_by}
 
 -- the home's lease is this one where a step leads
 abbrev pub LeaseStays : Claim → Next Writing CommitAnswer → Type 0
@@ -17,15 +15,7 @@ pub logs_lease : (w : Writing) (x : Next Writing CommitAnswer) → Logs w x → 
 logs_lease w x (written.logs r e) = refl
 logs_lease w x (written.opens e) = refl
 
--- also where it begins
-pub routing_lease : (w : Writing) (pages : List ℕ) → LeaseStays w.home.lease (routing w pages)
-routing_lease w pages = on (passes (routed_of w.home w.changes pages))
-  where
-    on : (b : Bool) → LeaseStays w.home.lease (cond b (not_committed w (trouble.Exhausted counter.Number)) (begun w (routed_of w.home w.changes pages)))
-    on true = refl
-    on false = logs_lease (record w { records = routed_of w.home w.changes pages; place = 0 }) (begun w (routed_of w.home w.changes pages)) (begins w (routed_of w.home w.changes pages))
-
--- and by each call
+-- by each call
 wrote_stays : (w : Writing) (a : Answer) (x : Next Writing CommitAnswer) → Wrote w a x → LeaseStays w.home.lease x
 wrote_stays v a x (written.goes_on w id next first) = logs_lease (written.logged v id) x first
 wrote_stays v a x (written.not_logged w y failed) = refl

@@ -17,22 +17,29 @@ use Rattle.node_codec.specs.Tree.{tree_of, tree_format}
 use Rattle.cloud_trait.specs.declared.answer.Answer.TheVariants as call
 use Rattle.cloud_trait.specs.Ask.{Take}
 use Rattle.tree_phases.specs.Read.{damaged, leaf_or, inner_or}
-use Rattle.orphan_sweep.specs.Causes.{BreaksLeaf, BreaksInner, BreaksLevel, HasLow, Shows, IsShown}
+use Rattle.orphan_sweep.specs.Causes.{BreaksLeaf, BreaksInner, BreaksLevel, HasLow, LeadsTo, Shows, IsShown}
 use Rattle.orphan_sweep.specs.Demands.{Owes}
-use Rattle.orphan_sweep.specs.Pages.{root_or, root_held, top_spot, leaf_paths, inner_paths, leaf_held, inner_held, fenced, leaf_at, levelled, inner_at, paths_of, onward}
+use Rattle.orphan_sweep.specs.Pages.{root_or, root_held, leaf_paths, inner_paths, leaf_held, inner_held, fenced, leaf_at, levelled, inner_at, paths_of}
 use Rattle.orphan_sweep.specs.Leases.{HasOrphan, HoldsAt}
-use Rattle.orphan_sweep.specs.Sweeping.{Sweeping, Step, sweep_ask, ask_at, remove_next, next_orphan, stopping, is_among, to_page, goes_on, root_found, page_found, finished_by, sweep_next, KeepsLease}
+use Rattle.orphan_sweep.specs.Sweeping.{Sweeping, Step, sweep_ask, ask_at, remove_next, next_orphan, is_among, sweep_next, KeepsLease}
 use Rattle.orphan_sweep.proofs.Causes.{HoldsNeeded}
 use Rattle.orphan_sweep.proofs.Calm.{IsQuiet}
 use Rattle.orphan_sweep.proofs.Lists.{itself}
-use Rattle.orphan_sweep.proofs.Outcomes.{leased}
-use Rattle.orphan_sweep.proofs.Words.{Trouble, Answer, Turn, More, Ended, Stopped, Claim, Goes, Ends, Stops, LeadsBy, Took, Fits, Paths, Spot, Stage, Tree, TakingTree, GettingTree, Reading, Listing, Removing, Releasing, Finished, Swept}
+use Rattle.orphan_sweep.proofs.Outcomes as step
+use Rattle.orphan_sweep.proofs.Outcomes.{leased, Onward, Fails, fails_stop, refused_stops, kept_stops}
+use Rattle.orphan_sweep.proofs.Words.{Trouble, Answer, Turn, More, Ended, Stopped, Claim, Goes, Ends, Stops, LeadsBy, Took, Fits, given_of, Paths, Spot, Stage, TakingTree, GettingTree, Reading, Listing, Removing, Releasing, Finished, Swept}
 
 -- the trouble is kept while the lease is given back, or answered
 abbrev NextOwes : Step → Trouble → Type 0
 NextOwes (Goes n) t = n.trouble ≡ Some t
 NextOwes (Ends n x) t = ⊥
 NextOwes (Stops n u) t = u ≡ t
+
+fails_owe : {s : Sweeping} {a : Answer} {t : Trouble} → Fails s a t → NextOwes (sweep_next s a) t
+fails_owe {t = t} fails = subst (λ (next : Step). NextOwes next t) (sym (fails_stop fails)) refl
+
+refused_owes : (s : Sweeping) (held : Option Claim) (a : Answer) (t : Trouble) → given_of (lock.Tree s.tree) a ≡ Err t → NextOwes (sweep_next (leased s TakingTree held) a) t
+refused_owes s held a t e = subst (λ (next : Step). NextOwes next t) (sym (refused_stops s held a t e)) refl
 
 -- at a stage, where the lease that the call needs is held and the answer fits the call
 abbrev OwesAt : Stage → Sweeping → Option Claim → Answer → Trouble → Type 0
@@ -45,30 +52,30 @@ removal_waits : {X : Type 0} (s : Sweeping) (l : Claim) (until : ℕ) → HasOrp
 removal_waits s l until (page, next) fits = absurd (subst (λ (o : Option ℕ). Fits (remove_next s l o) (call.Held until)) next fits)
 
 failed_owes : (stage : Stage) (s : Sweeping) (held : Option Claim) → OwesAt stage s held call.Failed trouble.Failed
-failed_owes TakingTree s held own fits shown = refl
-failed_owes GettingTree s held own fits shown = refl
-failed_owes Reading s held own fits shown = refl
-failed_owes Listing s held own fits shown = refl
-failed_owes Removing s held own fits shown = refl
+failed_owes TakingTree s held own fits shown = refused_owes s held call.Failed trouble.Failed refl
+failed_owes GettingTree s held own fits shown = fails_owe (step.no_root s held call.Failed trouble.Failed refl)
+failed_owes Reading s held own fits shown = fails_owe (step.no_page s held call.Failed trouble.Failed refl)
+failed_owes Listing s held own fits shown = fails_owe (step.no_list s held call.Failed trouble.Failed refl)
+failed_owes Removing s held own fits shown = fails_owe (step.not_removed s held call.Failed trouble.Failed refl)
 failed_owes Releasing s (Some l) own fits shown = absurd shown.1
 failed_owes Releasing s None own fits shown = absurd own
 failed_owes Finished s held own fits shown = absurd own
 
 late_owes : (stage : Stage) (s : Sweeping) (held : Option Claim) (end now : ℕ) → OwesAt stage s held (call.Late end now) (trouble.Late end now)
 late_owes TakingTree s held end now own fits shown = absurd fits
-late_owes GettingTree s held end now own fits shown = refl
-late_owes Reading s held end now own fits shown = refl
-late_owes Listing s held end now own fits shown = refl
-late_owes Removing s held end now own fits shown = refl
+late_owes GettingTree s held end now own fits shown = fails_owe (step.no_root s held (call.Late end now) (trouble.Late end now) refl)
+late_owes Reading s held end now own fits shown = fails_owe (step.no_page s held (call.Late end now) (trouble.Late end now) refl)
+late_owes Listing s held end now own fits shown = fails_owe (step.no_list s held (call.Late end now) (trouble.Late end now) refl)
+late_owes Removing s held end now own fits shown = fails_owe (step.not_removed s held (call.Late end now) (trouble.Late end now) refl)
 late_owes Releasing s (Some l) end now own fits shown = absurd fits
 late_owes Releasing s None end now own fits shown = absurd own
 late_owes Finished s held end now own fits shown = absurd own
 
-busy_is : (tree : ℕ) (mine : Lock) (until : ℕ) → Take (lock.Tree tree) 60 ≡ Take mine 60 → trouble.Busy (lock.Tree tree) until ≡ trouble.Busy mine until
-busy_is tree mine until e = let same : lock.Tree tree ≡ mine = cc (e) in ap (λ (x : Lock). trouble.Busy x until) same
+busy_is : (tree : ℕ) (mine : Lock) (until : ℕ) → Take (lock.Tree tree) 60 ≡ Take mine 60 → given_of (lock.Tree tree) (call.Held until) ≡ Err (trouble.Busy mine until)
+busy_is tree mine until e = let same : lock.Tree tree ≡ mine = cc (e) in ap (λ (x : Lock). Err (trouble.Busy x until)) same
 
 busy_owes : (stage : Stage) (s : Sweeping) (held : Option Claim) (mine : Lock) (until : ℕ) → OwesAt stage s held (call.Held until) (trouble.Busy mine until)
-busy_owes TakingTree s held mine until own fits shown = busy_is s.tree mine until shown.0
+busy_owes TakingTree s held mine until own fits shown = refused_owes s held (call.Held until) (trouble.Busy mine until) (busy_is s.tree mine until shown.0)
 busy_owes GettingTree s (Some l) mine until own fits shown = absurd fits
 busy_owes GettingTree s None mine until own fits shown = absurd own
 busy_owes Reading s (Some l) mine until own fits shown = absurd fits
@@ -82,17 +89,6 @@ busy_owes Releasing s None mine until own fits shown = absurd own
 busy_owes Finished s held mine until own fits shown = absurd own
 
 -- ---- objects that are wrong
-
--- where this trouble was read of the tree object or of a page, it is kept
-root_owes : (s : Sweeping) (held : Option Claim) (got : Option (List ℕ)) (t : Trouble) → root_held s.tree got ≡ Err t
-    → NextOwes (sweep_next (leased s GettingTree held) (call.Got got)) t
-root_owes s held got t e =
-    subst (λ (r : Result Tree Trouble). NextOwes (root_found (leased s GettingTree held) r) t) (sym e) refl
-
-page_owes : (s : Sweeping) (held : Option Claim) (got : Option (List ℕ)) (t : Trouble) → paths_of s.tree s.at got ≡ Err t
-    → NextOwes (sweep_next (leased s Reading held) (call.Got got)) t
-page_owes s held got t e =
-    subst (λ (r : Result Paths Trouble). NextOwes (page_found (leased s Reading held) r) t) (sym e) refl
 
 -- a leaf is read at level 0, and an inner node above it
 at_leaf : (s : Sweeping) (got : Option (List ℕ)) → s.at.level ≡ 0 → paths_of s.tree s.at got ≡ leaf_at s.at (leaf_held s.tree s.at.page got)
@@ -193,18 +189,6 @@ breaks_fence s a found differs (inr (level, (bytes, (n, is, spelled, of_level, l
     same_level : (k : ℕ) → cond (k == k) (fenced s.at n.low (inner_paths n)) (Err (damaged s.tree s.at.page 10)) ≡ fenced s.at n.low (inner_paths n)
     same_level k = ap (λ (b : Bool). cond b (fenced s.at n.low (inner_paths n)) (Err (damaged s.tree s.at.page 10))) (itself k)
 
--- ---- where it leads round
-
-round_owes : (s : Sweeping) (spot : Spot) → is_among s.visited spot.page ≡ true → goes_on s (Some spot) ≡ stopping s (trouble.Loop spot.page)
-round_owes s spot seen = ap (λ (b : Bool). cond b (stopping s (trouble.Loop spot.page)) (to_page s spot)) seen
-
-leads_round : (s : Sweeping) (o : Option Spot) (spot : Spot) (page : ℕ) → o ≡ Some spot → is_among s.visited page ≡ true → page ≡ spot.page
-    → NextOwes (goes_on s o) (trouble.Loop page)
-leads_round s o spot page is seen same =
-    subst (λ (x : Option Spot). NextOwes (goes_on s x) (trouble.Loop page)) (sym is)
-    (subst (λ (next : Step). NextOwes next (trouble.Loop page)) (sym (round_owes s spot (subst (λ (p : ℕ). is_among s.visited p ≡ true) same seen)))
-    (ap (λ (p : ℕ). Some (trouble.Loop p)) (sym same)))
-
 -- ---- at a stage
 
 -- what a held get brought of the page at hand shows this trouble
@@ -212,23 +196,19 @@ reads_owes : (stage : Stage) (s : Sweeping) (held : Option Claim) (a : Answer) (
     → ((got : Option (List ℕ)) × (a ≡ call.Got got) × (paths_of s.tree s.at got ≡ Err t)) → NextOwes (sweep_next (leased s stage held) a) t
 reads_owes stage s held a t is (got, answer, e) =
     subst (λ (x : Stage). NextOwes (sweep_next (leased s x held) a) t) (sym is)
-    (subst (λ (x : Answer). NextOwes (sweep_next (leased s Reading held) x) t) (sym answer) (page_owes s held got t e))
+    (subst (λ (x : Answer). NextOwes (sweep_next (leased s Reading held) x) t) (sym answer) (fails_owe (step.bad_page s held got t e)))
 
 -- .. and of the tree object
 gets_owes : (stage : Stage) (s : Sweeping) (held : Option Claim) (a : Answer) (t : Trouble) → stage ≡ GettingTree
     → ((got : Option (List ℕ)) × (a ≡ call.Got got) × (root_held s.tree got ≡ Err t)) → NextOwes (sweep_next (leased s stage held) a) t
 gets_owes stage s held a t is (got, answer, e) =
     subst (λ (x : Stage). NextOwes (sweep_next (leased s x held) a) t) (sym is)
-    (subst (λ (x : Answer). NextOwes (sweep_next (leased s GettingTree held) x) t) (sym answer) (root_owes s held got t e))
+    (subst (λ (x : Answer). NextOwes (sweep_next (leased s GettingTree held) x) t) (sym answer) (fails_owe (step.bad_root s held got t e)))
 
 absent_owes : (stage : Stage) (s : Sweeping) (held : Option Claim) (a : Answer) (page : ℕ) → OwesAt stage s held a (trouble.Absent page)
 absent_owes stage s held a page own fits (is, page_is, other, answer) =
     subst (λ (p : ℕ). NextOwes (sweep_next (leased s stage held) a) (trouble.Absent p)) (sym page_is)
     (reads_owes stage s held a (trouble.Absent s.at.page) is (None, answer, absent_read s (λ e. other (page_is ∙ e))))
-
-damage_at : (stage : Stage) (s : Sweeping) (held : Option Claim) (a : Answer) (here there : Place) (at : ℕ) → there ≡ here
-    → NextOwes (sweep_next (leased s stage held) a) (trouble.Damaged here at) → NextOwes (sweep_next (leased s stage held) a) (trouble.Damaged there at)
-damage_at stage s held a here there at is owes = subst (λ (p : Place). NextOwes (sweep_next (leased s stage held) a) (trouble.Damaged p at)) (sym is) owes
 
 root_breaks : (s : Sweeping) (bytes : List ℕ) (at : ℕ) → tree_of bytes ≡ None → at ≡ offset tree_format bytes
     → root_held s.tree (Some bytes) ≡ Err (trouble.Damaged (place.Object (object.Tree s.tree)) at)
@@ -243,10 +223,10 @@ page_breaks s a at (inr (inr h)) = breaks_level s a at h
 
 damaged_owes : (stage : Stage) (s : Sweeping) (held : Option Claim) (a : Answer) (where_it_is : Place) (at : ℕ) → OwesAt stage s held a (trouble.Damaged where_it_is at)
 damaged_owes stage s held a where_it_is at own fits (inl (there, (is, (bytes, answer, none, at_is)))) =
-    damage_at stage s held a (place.Object (object.Tree s.tree)) where_it_is at there
+    subst (λ (p : Place). NextOwes (sweep_next (leased s stage held) a) (trouble.Damaged p at)) (sym there)
     (gets_owes stage s held a (trouble.Damaged (place.Object (object.Tree s.tree)) at) is (Some bytes, answer, root_breaks s bytes at none at_is))
 damaged_owes stage s held a where_it_is at own fits (inr (there, (is, breaks))) =
-    damage_at stage s held a (place.Object (object.Page s.tree s.at.page)) where_it_is at there
+    subst (λ (p : Place). NextOwes (sweep_next (leased s stage held) a) (trouble.Damaged p at)) (sym there)
     (reads_owes stage s held a (damaged s.tree s.at.page at) is (page_breaks s a at breaks))
 
 fence_owes : (stage : Stage) (s : Sweeping) (held : Option Claim) (a : Answer) (page : ℕ) (expected found : List ℕ)
@@ -257,17 +237,21 @@ fence_owes stage s held a page expected found own fits (is, page_is, expected_is
     (reads_owes stage s held a (trouble.BadFence s.at.page s.at.low found) is
     (breaks_fence s a found (subst (λ (k : List ℕ). bytes_same k found ≡ false) expected_is differs) has)))
 
+-- a page that was come to before
+leads_on : (stage : Stage) (s : Sweeping) (held : Option Claim) (a : Answer) (spot : Spot) → LeadsTo (leased s stage held) a spot → Onward (leased s stage held) a (Some spot)
+leads_on stage s held a spot (inl (is, (got, (root, answer, read, spot_is)))) =
+    subst (λ (x : Stage). Onward (leased s x held) a (Some spot)) (sym is)
+    (subst (λ (x : Answer). Onward (leased s GettingTree held) x (Some spot)) (sym answer)
+    (subst (λ (x : Spot). Onward (leased s GettingTree held) (call.Got got) (Some x)) (sym spot_is) (step.from_root s held got root read)))
+leads_on stage s held a spot (inr (is, (got, (paths, answer, read, on)))) =
+    subst (λ (x : Stage). Onward (leased s x held) a (Some spot)) (sym is)
+    (subst (λ (x : Answer). Onward (leased s Reading held) x (Some spot)) (sym answer)
+    (subst (Onward (leased s Reading held) (call.Got got)) on (step.from_page s held got paths read)))
+
 loop_owes : (stage : Stage) (s : Sweeping) (held : Option Claim) (a : Answer) (page : ℕ) → OwesAt stage s held a (trouble.Loop page)
-loop_owes stage s held a page own fits (seen, (spot, inl (is, (got, (root, answer, read, spot_is))), same)) =
-    subst (λ (x : Stage). NextOwes (sweep_next (leased s x held) a) (trouble.Loop page)) (sym is)
-    (subst (λ (x : Answer). NextOwes (sweep_next (leased s GettingTree held) x) (trouble.Loop page)) (sym answer)
-    (subst (λ (r : Result Tree Trouble). NextOwes (root_found (leased s GettingTree held) r) (trouble.Loop page)) (sym read)
-    (leads_round (leased s GettingTree held) (Some (top_spot root)) spot page (ap (λ (x : Spot). Some x) (sym spot_is)) seen same)))
-loop_owes stage s held a page own fits (seen, (spot, inr (is, (got, (paths, answer, read, on))), same)) =
-    subst (λ (x : Stage). NextOwes (sweep_next (leased s x held) a) (trouble.Loop page)) (sym is)
-    (subst (λ (x : Answer). NextOwes (sweep_next (leased s Reading held) x) (trouble.Loop page)) (sym answer)
-    (subst (λ (r : Result Paths Trouble). NextOwes (page_found (leased s Reading held) r) (trouble.Loop page)) (sym read)
-    (leads_round (leased s Reading held) (onward s.at paths) spot page on seen same)))
+loop_owes stage s held a page own fits (seen, (spot, leads, same)) =
+    subst (λ (p : ℕ). NextOwes (sweep_next (leased s stage held) a) (trouble.Loop p)) (sym same)
+    (fails_owe (step.round spot (leads_on stage s held a spot leads) (subst (λ (p : ℕ). is_among s.visited p ≡ true) same seen)))
 
 -- .. where the answer is this one
 answered : (stage : Stage) (s : Sweeping) (held : Option Claim) (a given : Answer) (t : Trouble) → a ≡ given → OwesAt stage s held given t → OwesAt stage s held a t
@@ -293,7 +277,7 @@ shown_owes stage s held a trouble.Memory other own fits shown = absurd (other re
 kept_owes : (s : Sweeping) (a : Answer) (t : Trouble) → IsQuiet s → s.trouble ≡ Some t → NextOwes (sweep_next s a) t
 kept_owes s a t (inl stage) kept =
     subst (λ (x : Stage). NextOwes (sweep_next (leased s x s.held) a) t) (sym stage)
-    (subst (λ (o : Option Trouble). NextOwes (finished_by (leased s Releasing None) o) t) (sym kept) refl)
+    (subst (λ (next : Step). NextOwes next t) (sym (kept_stops s s.held a t kept)) refl)
 kept_owes s a t (inr none) kept = absurd (cc (none, kept))
 
 owes_next : (s : Sweeping) (a : Answer) (t : Trouble) → HoldsNeeded s → IsQuiet s → Fits (sweep_ask s) a → t ≢ trouble.Memory → IsShown s a t → NextOwes (sweep_next s a) t

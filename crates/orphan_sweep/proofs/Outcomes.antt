@@ -1,5 +1,5 @@
 -- What a step of a sweep comes to, whatever branches led there.
-use Rattle.std.proofs.Common.{◌≡◌, ℕ, Bool, true, false, cond, List, Option, Some, None, Result, Ok, Err, refl, sym, subst}
+use Rattle.std.proofs.Common.{◌≡◌, ℕ, Bool, true, false, cond, List, Option, Some, None, Result, Ok, Err, refl, sym, ap, subst, ◌∙◌}
 use Rattle.db_base.specs.declared.names.Lock.TheVariants as lock
 use Rattle.db_base.specs.declared.trouble.Trouble.TheVariants as trouble
 use Rattle.cloud_trait.specs.declared.answer.Answer.TheVariants as call
@@ -136,3 +136,26 @@ comes s a = comes_at s.stage s s.held a
 -- .. where the answer leads
 pub came_by : (s : Sweeping) (a : Answer) (next : Step) → sweep_next s a ≡ next → Comes s a next
 came_by s a next e = subst (Comes s a) e (comes s a)
+
+-- ---- .. and back: a step by what it comes to
+
+onward_goes : {s : Sweeping} {a : Answer} {o : Option Spot} → Onward s a o → sweep_next s a ≡ goes_on s o
+onward_goes (from_root s held got root e) = ap (root_found (leased s GettingTree held)) e
+onward_goes (from_page s held got paths e) = ap (page_found (leased s Reading held)) e
+
+pub fails_stop : {s : Sweeping} {a : Answer} {t : Trouble} → Fails s a t → sweep_next s a ≡ stopping s t
+fails_stop (no_root s held a t e) = ap (root_got (leased s GettingTree held)) e
+fails_stop (no_page s held a t e) = ap (page_got (leased s Reading held)) e
+fails_stop (no_list s held a t e) = ap (listed_by (leased s Listing held)) e
+fails_stop (not_removed s held a t e) = ap (removed_by (leased s Removing held)) e
+fails_stop (bad_root s held got t e) = ap (root_found (leased s GettingTree held)) e
+fails_stop (bad_page s held got t e) = ap (page_found (leased s Reading held)) e
+fails_stop {s = s} (round spot on seen) = onward_goes on ∙ ap (λ (b : Bool). cond b (stopping s (trouble.Loop spot.page)) (to_page s spot)) seen
+
+pub refused_stops : (s : Sweeping) (held : Option Claim) (a : Answer) (t : Trouble) → given_of (lock.Tree s.tree) a ≡ Err t
+    → sweep_next (leased s TakingTree held) a ≡ Stops (leased s TakingTree held) t
+refused_stops s held a t e = ap (taken_by (leased s TakingTree held)) e
+
+pub kept_stops : (s : Sweeping) (held : Option Claim) (a : Answer) (t : Trouble) → s.trouble ≡ Some t
+    → sweep_next (leased s Releasing held) a ≡ Stops (record (leased s Finished None) { trouble = None }) t
+kept_stops s held a t e = ap (finished_by (leased s Releasing None)) e

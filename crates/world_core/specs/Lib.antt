@@ -3,6 +3,7 @@ pub mod Put
 pub mod Asked
 pub mod Replying
 pub mod Handled
+pub mod About
 pub mod Stands
 pub mod Sound
 pub mod Acknowledged

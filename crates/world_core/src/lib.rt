@@ -1,6 +1,7 @@
 //! The world of a replay: it handles one line after another.
 #![tactic(auto)]
 
+mod about;
 pub mod asked;
 mod checkpoint;
 mod noting;

@@ -5,11 +5,13 @@ ghost use Rattle.world_core.specs.Put.{is_blind};
 ghost use Rattle.world_core.specs.Stands.{Grows};
 ghost use Rattle.world_core.specs.Span.{span_by};
 
+use crate::about::{About, about_in_hand};
 use crate::noting::{keep_landed, note_put};
 use crate::put::{Put, is_newest, put_in_hand};
 use crate::quota::Quota;
 use crate::replying::is_done;
 use crate::world::{World, WorldFault};
+use ckpt_policy::Note;
 use client_work::answer::Answer;
 use client_work::calls::SessionCalls;
 use cloud_trait::cloud::Bench;
@@ -23,6 +25,7 @@ use std::alloc::Global;
 
 impl<S: SessionCalls> World<S> {
     ghost use Rattle.client_work.specs.Session.{StepsSession};
+    ghost use Rattle.world_core.specs.About.{HasNote};
     ghost use Rattle.world_core.specs.Handled.{FallsShort, KeepsNotes, NotesCall, NotesEnd, RunsShort, StepsLooked};
     ghost use Rattle.world_core.specs.Quota.{SpendsQuota};
     ghost use Rattle.world_core.specs.Sessions.{Changes, HasPut, IsAtWork};
@@ -95,6 +98,27 @@ impl<S: SessionCalls> World<S> {
         if self.blind {
             return self.step_other(alloc, cloud, who, wish);
         }
+        match about_in_hand(self.session(who.session)) {
+            About::Looks => self.step_looking(alloc, cloud, who, wish),
+            About::Notes(note) => self.step_noted(alloc, cloud, who, wish, note),
+        }
+    }
+
+    /// Makes a step between two looks, where it is a put.
+    fn step_looking<C: Bench>(
+        &mut self,
+        alloc: Global,
+        cloud: &mut C,
+        who: Who,
+        wish: Wish,
+    ) -> Result<Turn<Answer>, WorldFault>
+        requires works { IsAtWork who.session self.old.sessions }
+        ensures looked { IfOk result (λ turn. StepsLooked who wish
+            (span_by C.seen cloud.old cloud.new self.old self.new) turn) }
+        ensures short { OnErr result (FallsShort who wish
+            (span_by C.seen cloud.old cloud.new self.old self.new)) }
+        ensures grows { Grows who.event (C.seen cloud.old) (C.seen cloud.new) }
+    {
         match put_in_hand(alloc, self.session(who.session)) {
             Ok(Some(put)) => self.step_put(alloc, cloud, who, wish, &put),
             Ok(None) => self.step_other(alloc, cloud, who, wish),
@@ -118,7 +142,39 @@ impl<S: SessionCalls> World<S> {
             (span_by C.seen cloud.old cloud.new self.old self.new)) }
         ensures grows { Grows who.event (C.seen cloud.old) (C.seen cloud.new) }
     {
-        match self.note_call(who.session) {
+        let note = self.note_in_hand(who.session);
+        self.step_noted(alloc, cloud, who, wish, note)
+    }
+
+    /// What is to be noted of the call in hand of the session.
+    fn note_in_hand(&self, number: SessionNo) -> Option<Note>
+        ensures { HasNote number self.now.sessions result }
+    {
+        match self.session(number).in_hand() {
+            Some(call) => note_of_call(&call),
+            None => None,
+        }
+    }
+
+    /// Makes a step at whose put nothing looks, and of whose call this is to be noted.
+    fn step_noted<C: Bench>(
+        &mut self,
+        alloc: Global,
+        cloud: &mut C,
+        who: Who,
+        wish: Wish,
+        note: Option<Note>,
+    ) -> Result<Turn<Answer>, WorldFault>
+        requires works { IsAtWork who.session self.old.sessions }
+        requires unlooked { (self.old.blind ≡ true) ⊎ HasPut who.session self.old.sessions None }
+        requires notes { HasNote who.session self.old.sessions note }
+        ensures looked { IfOk result (λ turn. StepsLooked who wish
+            (span_by C.seen cloud.old cloud.new self.old self.new) turn) }
+        ensures short { OnErr result (FallsShort who wish
+            (span_by C.seen cloud.old cloud.new self.old self.new)) }
+        ensures grows { Grows who.event (C.seen cloud.old) (C.seen cloud.new) }
+    {
+        match self.note_call(who.session, note) {
             Ok(()) => {}
             Err(_) => return Err(WorldFault::Memory),
         }
@@ -140,16 +196,12 @@ impl<S: SessionCalls> World<S> {
         self.notes.end(number, done)
     }
 
-    /// Notes the call in hand of the session, where it counts. Refused for memory alone, and then nothing changes.
-    fn note_call(&mut self, number: SessionNo) -> Result<(), Refused>
-        requires { IsAtWork number self.old.sessions }
+    /// Notes the call in hand of the session, of which this is to be noted. Refused for memory alone, and then nothing changes.
+    fn note_call(&mut self, number: SessionNo, note: Option<Note>) -> Result<(), Refused>
+        requires { HasNote number self.old.sessions note }
         ensures ok { OnOk result (NotesCall number self.old self.new) }
         ensures err { OnErr result (self.new ≡ self.old) }
     {
-        let note = match self.session(number).in_hand() {
-            Some(call) => note_of_call(&call),
-            None => None,
-        };
         self.notes.take(number, note)
     }
 

@@ -2,7 +2,7 @@ use Rattle.std.proofs.Common.{ap, subst}
 use Rattle.cloud_trait.specs.Caller.{Caller}
 use Rattle.world_core.specs.Handled.{NotesCall, NotesEnd}
 use Rattle.world_core.proofs.Checkpointing.{step_grows, step_noted, step_unnoted}
-use Rattle.world_core.proofs.world.World.step_other.Goals as goal
+use Rattle.world_core.proofs.world.World.step_noted.Goals as goal
 
 pub returns-in-Ok-note_end-clause-looked : goal.returns-in-Ok-note_end-clause-looked
 returns-in-Ok-note_end-clause-looked g c =

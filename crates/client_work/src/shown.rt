@@ -1,4 +1,5 @@
 ghost use Rattle.std.specs.Prelude.{◌≡◌};
+ghost use Rattle.client_work.specs.declared.shown.Shown.TheVariants.{Nothing};
 
 use record_read::RecordRead;
 use report_types::pair_list::PairList;
@@ -33,10 +34,18 @@ impl Shown {
     {
         match self {
             Shown::Nothing => {}
-            Shown::Read(_) => put(self, Shown::Nothing),
-            Shown::Listed(_) => put(self, Shown::Nothing),
+            Shown::Read(_) => forget(self),
+            Shown::Listed(_) => forget(self),
         }
     }
+}
+
+/// Shows nothing from now on. Apart, so that a step that showed nothing need not clear the room that this takes.
+#[inline(never)]
+fn forget(place: &mut Shown)
+    ensures { place.new ≡ Nothing }
+{
+    *place = Shown::Nothing;
 }
 
 /// Shows this from now on.

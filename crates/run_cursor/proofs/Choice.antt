@@ -51,7 +51,7 @@ find-new : {X : Type 0} (p : X → Bool) (xs : List X) (x : X) → list_any p xs
 find-new p xs x none yes_ = find-append p xs (x ∷ []) ∙ (ap (λ o. option_or o (find p (x ∷ []))) (find-none p xs none) ∙ ap (λ b. cond b (Some x) None) yes_)
 
 -- one more at the end is among them, or it was before
-has_number-push : (xs : List PuItem) (x : PuItem) (c n : ℕ) → has_number (xs ++ x ∷ []) c n ≡ (has_number xs c n || is_at c n x)
+pub has_number-push : (xs : List PuItem) (x : PuItem) (c n : ℕ) → has_number (xs ++ x ∷ []) c n ≡ (has_number xs c n || is_at c n x)
 has_number-push xs x c n = list_any-append (is_at c n) xs (x ∷ []) ∙ on (has_number xs c n) (is_at c n x)
   where
     on : (a b : Bool) → (a || (b || false)) ≡ (a || b)
@@ -68,7 +68,7 @@ pub record IsHere (x : PuItem) (c n : ℕ) : Type 0 where
   pub client : x.rec.client ≡ c
   pub number : x.rec.number ≡ n
 
-is_at-true : (x : PuItem) (c n : ℕ) → is_at c n x ≡ true → IsHere x c n
+pub is_at-true : (x : PuItem) (c n : ℕ) → is_at c n x ≡ true → IsHere x c n
 is_at-true x c n h = record { client = grind (arith, nat_tests); number = grind (arith, nat_tests) }
 
 -- an item is the first of its client and number

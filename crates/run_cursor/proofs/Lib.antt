@@ -1,3 +1,4 @@
 pub mod Choice
+pub mod Coming
 pub mod Tops
 pub mod NewOnes

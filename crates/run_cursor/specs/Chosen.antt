@@ -1,6 +1,7 @@
 -- The items of a run in order of receipt.
-use Rattle.std.specs.Prelude.{ℕ, ◌&&◌, Bool, not, nat_lt, nat_le, List, [], ◌∷◌, ◌++◌, if◌then◌else◌}
+use Rattle.std.specs.Prelude.{◌≡◌, ℕ, ◌&&◌, Bool, not, nat_lt, nat_le, All, List, [], ◌∷◌, ◌++◌, if◌then◌else◌}
 use Rattle.db_base.specs.Cursor.{number_of}
+use Rattle.log_codec.specs.Order.{IsItem}
 use Rattle.log_codec.specs.declared.record.PuItem.{PuItem}
 use Rattle.run_cursor.specs.Run.{has_number}
 
@@ -14,3 +15,8 @@ is_wanted cursor top kept x =
 abbrev pub chosen : List (ℕ × ℕ) → List (ℕ × ℕ) → List PuItem → List PuItem → List PuItem
 chosen cursor top kept [] = kept
 chosen cursor top kept (x ∷ xs) = chosen cursor top (if is_wanted cursor top kept x then kept ++ x ∷ [] else kept) xs
+
+-- all of the items are chosen, as they are
+pub record AreChosen (cursor top : List (ℕ × ℕ)) (received : List PuItem) : Type 0 where
+  pub is : chosen cursor top [] received ≡ received
+  pub items : All IsItem received

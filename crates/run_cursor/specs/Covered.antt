@@ -1,5 +1,5 @@
 -- The messages that a cursor covers.
-use Rattle.std.specs.Prelude.{ℕ, ◌==◌, ◌++◌, Bool, nat_le, List, [], ◌∷◌, map, filter, if◌then◌else◌}
+use Rattle.std.specs.Prelude.{◌≡◌, ℕ, ◌<◌, ◌==◌, ◌++◌, Bool, false, nat_le, List, [], ◌∷◌, map, filter, if◌then◌else◌}
 use Rattle.std.specs.List.{list_any}
 use Rattle.db_base.specs.Cursor.{number_of}
 use Rattle.log_codec.specs.declared.record.PuItem.{PuItem}
@@ -15,6 +15,10 @@ is_seen seen n = list_any (λ m. m == n) seen
 -- a list with a number that it may have
 abbrev pub with_id : List ℕ → ℕ → List ℕ
 with_id seen n = if is_seen seen n then seen else seen ++ n ∷ []
+
+-- no number above this one is in a list
+abbrev pub NoneBeyond : List ℕ → ℕ → Type 0
+NoneBeyond seen n = (m : ℕ) → n < m → is_seen seen m ≡ false
 
 -- the numbers that were not seen, each at its first place
 abbrev pub new_ones : List ℕ → List ℕ → List ℕ

@@ -1,9 +1,11 @@
 ghost use Rattle.std.specs.Prelude.{◌≡◌, IfOk};
 
-use crate::chosen::choose;
+use crate::chosen::{choose, choose_of};
+use crate::covered::covered;
 use crate::order::compare;
 use crate::top::top_of;
 use db_base::cursor::Cursor;
+use db_base::ids::MsgId;
 use log_codec::record::PuItem;
 use std::alloc::{AllocError, AllocFailed, Global};
 use std::marker::Model;
@@ -71,6 +73,7 @@ impl Run {
     }
 }
 
+ghost use Rattle.run_cursor.specs.Covered.{covered_ids};
 ghost use Rattle.run_cursor.specs.Run.{IsRun};
 
 /// The run of a queue behind a cursor, among the received items. The one fault is want of memory.
@@ -81,4 +84,20 @@ pub fn take_run(alloc: Global, cursor: &Cursor, items: &[PuItem]) -> Result<Run,
     let mut kept = choose(alloc, cursor, &top, items)?;
     kept.sort_by(compare)?;
     Ok(Run { items: kept, top })
+}
+
+/// The same among items that it takes over, with the ids of those that its top covers, in order of receipt, each once.
+pub fn take_received(
+    alloc: Global,
+    cursor: &Cursor,
+    items: Vec<PuItem>,
+) -> Result<(Run, Vec<MsgId>), RunFault>
+    ensures run { IfOk result (λ taken. IsRun cursor.now items.items taken.0.items taken.0.top) }
+    ensures covered { IfOk result (λ taken. taken.1.items ≡ covered_ids taken.0.top items.items) }
+{
+    let top = top_of(cursor, items.as_slice())?;
+    let ids = covered(alloc, &top, items.as_slice())?;
+    let mut kept = choose_of(alloc, cursor, &top, items)?;
+    kept.sort_by(compare)?;
+    Ok((Run { items: kept, top }, ids))
 }

@@ -14,8 +14,7 @@ use db_base::names::{Place, QueueName};
 use db_base::trouble::Trouble;
 use log_codec::fault::RecFault;
 use log_codec::record::{PuItem, PuRec};
-use run_cursor::covered::covered;
-use run_cursor::run::{Run, take_run};
+use run_cursor::run::{Run, take_received};
 use std::alloc::{AllocError, Global};
 
 /// The most messages of one receive.
@@ -80,14 +79,11 @@ fn items_of(alloc: Global, queue: &QueueName, messages: &[Message]) -> Result<Ve
 }
 
 /// The run of items behind a cursor, and what its top covers. Refused for memory alone.
-fn run_of(alloc: Global, cursor: &Cursor, items: &[PuItem]) -> Result<Intake, Fault>
-    ensures { UnlessMemory (TakesRun cursor.now items.now) result }
+fn run_of(alloc: Global, cursor: &Cursor, items: Vec<PuItem>) -> Result<Intake, Fault>
+    ensures { UnlessMemory (TakesRun cursor.now items.items) result }
 {
-    let Ok(run) = take_run(alloc, cursor, items) else {
-        return Err(Fault::Memory);
-    };
-    match covered(alloc, run.top(), items) {
-        Ok(ids) => Ok(Intake {
+    match take_received(alloc, cursor, items) {
+        Ok((run, ids)) => Ok(Intake {
             run,
             deletions: Deletions::of(ids),
         }),
@@ -106,5 +102,5 @@ pub fn take_in(
     ensures { UnlessMemory (TakesIn queue.now cursor.now messages.now) result }
 {
     let items = items_of(alloc, queue, messages)?;
-    run_of(alloc, cursor, items.as_slice())
+    run_of(alloc, cursor, items)
 }

@@ -14,9 +14,9 @@ use Rattle.tree_phases.specs.Read.{tree_held, damaged, inner_or, inner_read, lea
 pub tree_is : (bytes : List ℕ) (t : Tree) → IsTree bytes t → t ≡ tree_held (Some bytes)
 tree_is bytes t is = sym (ap (λ (o : Option Tree). unwrap_or o empty_tree) (tree_only bytes t is))
 
-pub tree_is_none : (bytes : List ℕ) → IsBytes bytes → ((t : Tree) → IsTree bytes t → ⊥) → empty_tree ≡ tree_held (Some bytes)
+pub tree_is_none : (bytes : List ℕ) → IsBytes bytes → ((t : Tree) → IsTree bytes t → ⊥) → tree_of bytes ≡ None
 tree_is_none bytes fits none = on (tree_of bytes) refl where
-  on : (o : Option Tree) → tree_of bytes ≡ o → empty_tree ≡ unwrap_or o empty_tree
+  on : (o : Option Tree) → tree_of bytes ≡ o → o ≡ None
   on None e = refl
   on (Some t) e = absurd (none t (tree_found bytes t fits e))
 

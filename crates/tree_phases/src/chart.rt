@@ -1,5 +1,6 @@
 use crate::kept::KeptList;
 use crate::link::LinkList;
+use crate::spelled::TreeBytes;
 use db_base::blob::Blob;
 use db_base::ids::TreeId;
 use run_cursor::run::Run;
@@ -9,7 +10,7 @@ pub struct Chart {
     /// The tree.
     pub tree: TreeId,
     /// The newest tree object under the tree's lease; none where it was never put.
-    pub root: Option<Blob>,
+    pub root: Option<TreeBytes>,
     /// The run.
     pub run: Run,
     /// The records of the run with keys below it are handled; where there is none, all are.

@@ -11,7 +11,8 @@ use crate::kept::KeptNode;
 use crate::link::Link;
 use crate::pace::Pace;
 use crate::pages::PageList;
-use crate::read::{damaged, inner_view, tree_view};
+use crate::read::{damaged, node_bytes, tree_view};
+use crate::spelled::NodeBytes;
 use byte_format::{is_below, is_same};
 use ckpt_parts::Fault;
 use cloud_trait::answer::Answer;
@@ -88,13 +89,10 @@ impl Descent {
     }
 
     /// The same of the bytes of a node.
-    fn fork_of(&self, alloc: Global, bytes: &[u8]) -> Result<Fork, Fault>
+    fn fork_of(&self, alloc: Global, bytes: &NodeBytes) -> Result<Fork, Fault>
         ensures { Finds result (fork_of self.now bytes.now) }
     {
-        match inner_view(self.chart.tree, self.page, bytes) {
-            Ok(node) => self.fork(alloc, &node),
-            Err(trouble) => Err(Fault::Stops(trouble)),
-        }
+        self.fork(alloc, &bytes.view())
     }
 
     /// Goes where the node at hand leads. A link to the right is noted for the level above. Refused for memory alone.
@@ -142,7 +140,7 @@ impl Descent {
         ensures { FindsKept self.now result (kept_at self.now) }
     {
         match self.chart.nodes.find(self.page) {
-            Some(kept) => Some(self.fork_of(alloc, kept.bytes.as_slice())),
+            Some(kept) => Some(self.fork_of(alloc, &kept.bytes)),
             None => None,
         }
     }
@@ -208,7 +206,7 @@ impl Descent {
     }
 
     /// Keeps the node that was got. Refused for memory alone.
-    fn keep(&mut self, alloc: Global, bytes: Blob) -> Result<(), AllocError>
+    fn keep(&mut self, alloc: Global, bytes: NodeBytes) -> Result<(), AllocError>
         ensures { OnOk result (self.new ≡ with_node self.old bytes) }
     {
         let low = Blob::copy_of(alloc, self.low.as_slice())?;
@@ -235,7 +233,17 @@ impl Descent {
     fn got(&mut self, alloc: Global, bytes: Blob) -> Pace<()>
         ensures { Went (got_node self.old bytes (fork_of self.old bytes)) self.new result }
     {
-        match self.fork_of(alloc, bytes.as_slice()) {
+        match node_bytes(self.chart.tree, self.page, bytes) {
+            Ok(node) => self.got_node(alloc, node),
+            Err(trouble) => Pace::Stopped(trouble),
+        }
+    }
+
+    /// The same of bytes that spell a node.
+    fn got_node(&mut self, alloc: Global, bytes: NodeBytes) -> Pace<()>
+        ensures { Went (got_node self.old bytes (fork_of self.old bytes)) self.new result }
+    {
+        match self.fork_of(alloc, &bytes) {
             Ok(fork) => self.got_fork(alloc, bytes, fork),
             Err(Fault::Stops(trouble)) => Pace::Stopped(trouble),
             Err(Fault::Memory) => Pace::Memory,
@@ -243,7 +251,7 @@ impl Descent {
     }
 
     /// Keeps the node, and goes where it leads.
-    fn got_fork(&mut self, alloc: Global, bytes: Blob, fork: Fork) -> Pace<()>
+    fn got_fork(&mut self, alloc: Global, bytes: NodeBytes, fork: Fork) -> Pace<()>
         ensures { Went (arrive (passed (with_node self.old bytes) fork)) self.new result }
     {
         if self.keep(alloc, bytes).is_err() {

@@ -1,3 +1,4 @@
+use crate::spelled::NodeBytes;
 use db_base::blob::Blob;
 use db_base::ids::PageId;
 use std::alloc::{AllocError, Global};
@@ -12,7 +13,7 @@ pub struct KeptNode {
     /// Its low key.
     pub low: Blob,
     /// The bytes that were got.
-    pub bytes: Blob,
+    pub bytes: NodeBytes,
 }
 
 impl Drop for KeptNode {

@@ -18,3 +18,4 @@ pub mod read;
 pub mod reserve;
 pub mod rising;
 pub mod root;
+pub mod spelled;

@@ -1,15 +1,14 @@
 //! An inner node with the links of its level that lie in its range.
 
-ghost use Rattle.std.specs.Prelude.{◌≡◌, ◌+◌, ◌-◌, ◌≤◌, Ok, Some, length, IfErr, OnOk};
+ghost use Rattle.std.specs.Prelude.{◌≡◌, ℕ, ◌+◌, ◌-◌, ◌≤◌, Ok, Some, length, IfErr, OnOk};
 ghost use Rattle.split_plan.specs.Sizes.{count_of};
 ghost use Rattle.tree_phases.specs.Going.{Finds};
-ghost use Rattle.tree_phases.specs.Nodes.{goes_to, is_touched, touches, with_links, linked, in_pieces, planned, node_plan, touched_at};
+ghost use Rattle.tree_phases.specs.Nodes.{goes_to, is_touched, touches, with_links, linked, linked_by, in_pieces, planned, planned_of, node_plan, touched_at};
 
 use crate::kept::KeptNode;
 use crate::link::Link;
 use crate::page_plan::PagePlan;
 use crate::placing::{Placing, PutQueue};
-use crate::read::inner_view;
 use crate::reserve::{Reserved, reserve, version_spent};
 use byte_format::{is_below, is_below_bound};
 use ckpt_parts::Fault;
@@ -48,10 +47,8 @@ fn is_touched(node: &InnerView<'_>, links: &[Link]) -> bool
 fn touches(tree: TreeId, kept: &KeptNode, links: &[Link]) -> bool
     ensures { result ≡ touches tree links.now kept.now }
 {
-    match inner_view(tree, kept.page, kept.bytes.as_slice()) {
-        Ok(node) => is_touched(&node, links),
-        Err(_trouble) => true,
-    }
+    let _tree = tree.get();
+    is_touched(&kept.bytes.view(), links)
 }
 
 /// How many nodes stand before the first one that a link goes to.
@@ -141,22 +138,31 @@ fn planned(
     }
 }
 
-/// The puts where a node that was got takes the links that go to it.
+/// The puts where a node takes the links that go to it.
+fn linked_plan(
+    alloc: Global,
+    root: &TreeView<'_>,
+    page: PageId,
+    node: &InnerView<'_>,
+    links: &[Link],
+) -> Result<PagePlan, Fault>
+    ensures { Finds result (planned_of root.now page (linked_by links.now (Ok node.now))) }
+{
+    match linked(alloc, node, links) {
+        Ok(buf) => planned(alloc, root, page, buf),
+        Err(Fault::Stops(trouble)) => Err(Fault::Stops(trouble)),
+        Err(Fault::Memory) => Err(Fault::Memory),
+    }
+}
+
+/// The same of a node that was got.
 pub(crate) fn node_plan(
     alloc: Global,
     root: &TreeView<'_>,
-    tree: TreeId,
     kept: &KeptNode,
     links: &[Link],
 ) -> Result<PagePlan, Fault>
-    ensures { Finds result (node_plan root.now tree kept.now links.now) }
+    ensures { (tree : ℕ) → Finds result (node_plan root.now tree kept.now links.now) }
 {
-    match inner_view(tree, kept.page, kept.bytes.as_slice()) {
-        Ok(node) => match linked(alloc, &node, links) {
-            Ok(buf) => planned(alloc, root, kept.page, buf),
-            Err(Fault::Stops(trouble)) => Err(Fault::Stops(trouble)),
-            Err(Fault::Memory) => Err(Fault::Memory),
-        },
-        Err(trouble) => Err(Fault::Stops(trouble)),
-    }
+    linked_plan(alloc, root, kept.page, &kept.bytes.view(), links)
 }

@@ -1,4 +1,4 @@
-use db_base::blob::Blob;
+use crate::spelled::TreeBytes;
 use split_plan::put_list::{PagePut, PutList};
 use std::alloc::Global;
 use std::marker::Model;
@@ -72,7 +72,7 @@ impl PutQueue {
 /// What is to be put: first the tree object that reserves the numbers of new pages, where there are such, then pages.
 pub struct Placing {
     /// The tree object with the reservation.
-    pub reserved: Option<Blob>,
+    pub reserved: Option<TreeBytes>,
     /// The pages, the rightmost first.
     pub puts: PutQueue,
 }
@@ -134,7 +134,7 @@ impl Placing {
     }
 
     /// The put in hand landed: a tree object is the newest one now.
-    pub fn land(&mut self, root: &mut Option<Blob>)
+    pub fn land(&mut self, root: &mut Option<TreeBytes>)
         ensures root { root.new ≡ landed_root self.old root.old }
         ensures left { self.new ≡ landed_placing self.old }
     {

@@ -1,8 +1,10 @@
 //! Objects as they are read from their bytes.
 
-ghost use Rattle.std.specs.Prelude.{◌≡◌, Some};
+ghost use Rattle.std.specs.Prelude.{◌≡◌, IfOk, IfErr, Err};
+ghost use Rattle.node_codec.specs.Inner.{IsInner};
 ghost use Rattle.tree_phases.specs.Read.{tree_held, damaged, inner_read, leaf_read};
 
+use crate::spelled::{NodeBytes, TreeBytes};
 use db_base::blob::Blob;
 use db_base::ids::{PageId, TreeId};
 use db_base::names::{ObjName, Place};
@@ -11,22 +13,12 @@ use leaf_view::LeafView;
 use node_codec::{InnerView, TreeView};
 
 /// The tree object of these bytes, and the empty tree where there are none.
-pub fn tree_view(held: &Option<Blob>) -> TreeView<'_>
+pub fn tree_view(held: &Option<TreeBytes>) -> TreeView<'_>
     ensures { result ≡ tree_held held.now }
 {
     match held {
         None => TreeView::empty(),
-        Some(bytes) => tree_or_empty(bytes.as_slice()),
-    }
-}
-
-/// The tree object of these bytes, and the empty tree where they spell none.
-fn tree_or_empty(bytes: &[u8]) -> TreeView<'_>
-    ensures { result ≡ tree_held (Some bytes.now) }
-{
-    match TreeView::read(bytes) {
-        Ok(view) => view,
-        Err(_) => TreeView::empty(),
+        Some(bytes) => bytes.view(),
     }
 }
 
@@ -42,11 +34,23 @@ pub fn damaged(tree: TreeId, page: PageId, offset: u64) -> Trouble
 
 /// The inner node that the bytes of a page spell.
 pub fn inner_view(tree: TreeId, page: PageId, bytes: &[u8]) -> Result<InnerView<'_>, Trouble>
-    ensures { result ≡ inner_read tree page bytes.now }
+    ensures read { result ≡ inner_read tree page bytes.now }
+    ensures found { IfOk result (λ v. IsInner bytes.now v) }
 {
     match InnerView::read(bytes) {
         Ok(view) => Ok(view),
         Err(fault) => Err(damaged(tree, page, fault.offset)),
+    }
+}
+
+/// The bytes of a page that spell an inner node.
+pub(crate) fn node_bytes(tree: TreeId, page: PageId, bytes: Blob) -> Result<NodeBytes, Trouble>
+    ensures ok { IfOk result (λ b. b ≡ bytes) }
+    ensures err { IfErr result (λ t. inner_read tree page bytes ≡ Err t) }
+{
+    match inner_view(tree, page, bytes.as_slice()) {
+        Ok(_) => Ok(NodeBytes::of(bytes)),
+        Err(trouble) => Err(trouble),
     }
 }
 

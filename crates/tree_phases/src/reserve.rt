@@ -5,8 +5,8 @@ ghost use Rattle.node_codec.specs.Tree.{tree_bytes};
 ghost use Rattle.tree_phases.specs.Going.{Finds};
 ghost use Rattle.tree_phases.specs.Reserve.{reservation, reserved, next_tree, version_spent, pages_spent};
 
+use crate::spelled::TreeBytes;
 use ckpt_parts::Fault;
-use db_base::blob::Blob;
 use db_base::ids::PageId;
 use db_base::pair::EditFault;
 use db_base::trouble::{Counter, Trouble};
@@ -43,11 +43,11 @@ pub fn next_tree(alloc: Global, view: &TreeView<'_>) -> Result<TreeBuf, Fault>
 }
 
 /// The bytes of a tree object.
-pub fn tree_spelled(alloc: Global, buf: &TreeBuf) -> Result<Blob, AllocError>
+pub fn tree_spelled(alloc: Global, buf: &TreeBuf) -> Result<TreeBytes, AllocError>
     ensures { IfOk result (λ b. b ≡ tree_bytes buf.now) }
 {
     match buf.write(alloc) {
-        Ok(bytes) => Ok(bytes),
+        Ok(bytes) => Ok(TreeBytes::of(bytes)),
         Err(_) => Err(AllocError),
     }
 }
@@ -56,7 +56,7 @@ pub fn tree_spelled(alloc: Global, buf: &TreeBuf) -> Result<Blob, AllocError>
 #[derive(Drop)]
 pub struct Reserved {
     /// The tree object that is put for them; none where no number is needed.
-    pub put: Option<Blob>,
+    pub put: Option<TreeBytes>,
     /// The first of the numbers; without any the page itself.
     pub first: PageId,
 }

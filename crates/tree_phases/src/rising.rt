@@ -15,11 +15,11 @@ use crate::placing::Placing;
 use crate::read::tree_view;
 use crate::reserve::version_spent;
 use crate::root::{RootPlan, raised_root, root_plan};
+use crate::spelled::TreeBytes;
 use ckpt_parts::Fault;
 use cloud_trait::answer::Answer;
 use cloud_trait::call::Call;
 use cloud_trait::lease::Lease;
-use db_base::blob::Blob;
 use db_base::names::ObjName;
 use db_base::trouble::Trouble;
 use std::alloc::Global;
@@ -34,7 +34,7 @@ pub struct Rising {
     /// What is to be put before the tree object.
     pub placing: Placing,
     /// The bytes of the tree object that is put last, once they are known.
-    pub last: Option<Blob>,
+    pub last: Option<TreeBytes>,
     /// Whether no version is left for it, so that the way up stops behind its pieces.
     pub is_spent: bool,
 }
@@ -96,7 +96,6 @@ impl Rising {
                 let plan = node_plan(
                     alloc,
                     &tree_view(&self.chart.root),
-                    self.chart.tree,
                     kept,
                     self.chart.links.as_slice(),
                 );

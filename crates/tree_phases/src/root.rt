@@ -8,10 +8,9 @@ ghost use Rattle.tree_phases.specs.Root.{is_named, with_named, risen, raised_roo
 
 use crate::link::Link;
 use crate::placing::{Placing, PutQueue};
-use crate::read::tree_view;
 use crate::reserve::{next_tree, pages_spent, reserve, tree_spelled};
+use crate::spelled::TreeBytes;
 use ckpt_parts::Fault;
-use db_base::blob::Blob;
 use db_base::cursor::Cursor;
 use db_base::ids::PageId;
 use db_base::pair::EditFault;
@@ -26,7 +25,7 @@ pub struct RootPlan {
     /// The puts before it: the reservation and the pieces, where it is cut.
     pub placing: Placing,
     /// The bytes of the tree object.
-    pub last: Blob,
+    pub last: TreeBytes,
     /// Whether the reservation takes the last version, so that the tree object is not put behind its pieces.
     pub is_spent: bool,
 }
@@ -89,7 +88,7 @@ fn again(alloc: Global, buf: &TreeBuf) -> Result<TreeBuf, Fault>
 {
     let _entries = buf.len();
     match tree_spelled(alloc, buf) {
-        Ok(bytes) => next_tree(alloc, &tree_view(&Some(bytes))),
+        Ok(bytes) => next_tree(alloc, &bytes.view()),
         Err(_) => Err(Fault::Memory),
     }
 }
@@ -99,7 +98,7 @@ fn lowered(
     alloc: Global,
     buf: TreeBuf,
     first: PageId,
-    reserved: Option<Blob>,
+    reserved: Option<TreeBytes>,
     is_spent: bool,
 ) -> Result<RootPlan, Fault>
     requires level { buf.level < 255 }
@@ -127,7 +126,7 @@ fn cut_at(
     alloc: Global,
     buf: TreeBuf,
     count: u64,
-    reserved: Option<Blob>,
+    reserved: Option<TreeBytes>,
     is_spent: bool,
 ) -> Result<RootPlan, Fault>
     requires level { buf.level < 255 }

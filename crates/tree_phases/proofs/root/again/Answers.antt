@@ -8,6 +8,6 @@ use Rattle.tree_phases.proofs.root.again.Goals as goal
 
 pub returns-in-Ok : goal.returns-in-Ok
 returns-in-Ok c =
-    let same : c.tree_view.result ≡ c.args.buf.now =
-    c.tree_view.ensures ∙ ap (λ (b : List ℕ). tree_held (Some b)) c.in-Ok.ensures ∙ held_spelled c.args.buf.now c.len-entries.ensures.sound in
+    let same : c.view.result ≡ c.args.buf.now =
+    c.view.ensures ∙ ap (λ (b : List ℕ). tree_held (Some b)) c.in-Ok.ensures ∙ held_spelled c.args.buf.now c.len-entries.ensures.sound in
     subst (λ (t : Tree). Finds c.next_tree.result (next_tree t)) same c.next_tree.ensures

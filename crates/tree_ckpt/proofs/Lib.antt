@@ -1,5 +1,4 @@
 pub mod Calling
-pub mod Reading
 pub mod Leading
 pub mod Leaving
 pub mod Words

@@ -190,11 +190,6 @@ tree_taken (Err t) = Stops work.Finished t
 abbrev pub tree_damage : ℕ → List ℕ → Trouble
 tree_damage tree bytes = trouble.Damaged (place.Object (object.Tree tree)) (offset tree_format bytes)
 
--- the damage of bytes that spell no tree object
-abbrev pub damage_of : ℕ → List ℕ → Option Tree → Option Trouble
-damage_of tree bytes (Some t) = None
-damage_of tree bytes None = Some (tree_damage tree bytes)
-
 abbrev pub tree_read : ℕ → Claim → List ℕ → Option Tree → Step
 tree_read tree l bytes (Some t) = Goes (work.Receiving l (Some bytes))
 tree_read tree l bytes None = stopping (one_lease l) (tree_damage tree bytes)

@@ -4,7 +4,7 @@ ghost use Rattle.std.specs.Prelude.{◌≡◌, [], ◌∷◌, Ok, Some};
 ghost use Rattle.ckpt_parts.specs.Intakes.{TakesIn};
 ghost use Rattle.ckpt_parts.specs.Unless.{UnlessMemory};
 ghost use Rattle.tree_phases.specs.Read.{tree_held};
-ghost use Rattle.tree_ckpt.specs.Moves.{Moves, MovesOn, tree_taken, tree_got, tree_read, chart_of, intake_taken, ReceivedBy, damage_of};
+ghost use Rattle.tree_ckpt.specs.Moves.{Moves, MovesOn, tree_taken, tree_got, tree_read, chart_of, intake_taken, ReceivedBy};
 ghost use Rattle.node_codec.specs.Tree.{tree_of};
 
 use crate::ending::delete_next;
@@ -18,13 +18,14 @@ use db_base::blob::Blob;
 use db_base::ids::TreeId;
 use db_base::names::{ObjName, Place, QueueName};
 use db_base::trouble::Trouble;
-use node_codec::{TreeView, whole_cursor};
+use node_codec::whole_cursor;
 use run_cursor::run::Run;
 use std::alloc::Global;
 use tree_phases::chart::Chart;
 use tree_phases::kept::KeptList;
 use tree_phases::link::LinkList;
 use tree_phases::read::tree_view;
+use tree_phases::spelled::TreeBytes;
 
 /// The tree's lease was given, or it was not.
 pub(crate) fn tree_taken(given: Result<Lease, Trouble>) -> Moved
@@ -51,22 +52,13 @@ pub(crate) fn tree_got(tree: TreeId, lease: Lease, got: Result<Option<Blob>, Tro
 fn tree_read(tree: TreeId, lease: Lease, bytes: Blob) -> Moved
     ensures { MovesOn (tree_read tree lease bytes (tree_of bytes)) (lease ∷ []) result }
 {
-    match damage_of(tree, bytes.as_slice()) {
-        None => Moved::goes(Work::Receiving(lease, Some(bytes))),
-        Some(trouble) => Moved::stops(one_lease(lease), trouble),
-    }
-}
-
-/// The damage of bytes that spell no tree object.
-fn damage_of(tree: TreeId, bytes: &[u8]) -> Option<Trouble>
-    ensures { result ≡ damage_of tree bytes.now (tree_of bytes.now) }
-{
-    match TreeView::read(bytes) {
-        Ok(_) => None,
-        Err(fault) => Some(Trouble::Damaged {
-            place: Place::Object(ObjName::Tree(tree)),
-            offset: fault.offset,
-        }),
+    match TreeBytes::read(bytes) {
+        Ok(bytes) => Moved::goes(Work::Receiving(lease, Some(bytes))),
+        Err(fault) => {
+            let place = Place::Object(ObjName::Tree(tree));
+            let offset = fault.offset;
+            Moved::stops(one_lease(lease), Trouble::Damaged { place, offset })
+        }
     }
 }
 
@@ -75,7 +67,7 @@ pub(crate) fn received(
     alloc: Global,
     tree: TreeId,
     lease: Lease,
-    root: Option<Blob>,
+    root: Option<TreeBytes>,
     received: Result<MessageList, Trouble>,
 ) -> Moved
     ensures { Moves (ReceivedBy tree lease root received) (lease ∷ []) result }
@@ -90,7 +82,7 @@ fn read_messages(
     alloc: Global,
     tree: TreeId,
     lease: Lease,
-    root: Option<Blob>,
+    root: Option<TreeBytes>,
     messages: &MessageList,
 ) -> Moved
     ensures { Moves (ReceivedBy tree lease root (Ok messages.now)) (lease ∷ []) result }
@@ -106,7 +98,7 @@ fn read_messages(
 fn intake_of(
     alloc: Global,
     tree: TreeId,
-    root: &Option<Blob>,
+    root: &Option<TreeBytes>,
     messages: &MessageList,
 ) -> Result<Intake, Fault>
     ensures { UnlessMemory (TakesIn (QueueName.TreePu tree) (tree_held root.now).cursor messages.now) result }
@@ -123,7 +115,13 @@ fn intake_of(
 }
 
 /// A run is applied key by key; the deletions come at once where it is empty.
-fn taken(alloc: Global, tree: TreeId, lease: Lease, root: Option<Blob>, intake: Intake) -> Moved
+fn taken(
+    alloc: Global,
+    tree: TreeId,
+    lease: Lease,
+    root: Option<TreeBytes>,
+    intake: Intake,
+) -> Moved
     ensures { MovesOn (intake_taken tree lease root (Ok intake)) (lease ∷ []) result }
 {
     let Intake { run, deletions } = intake;
@@ -135,7 +133,7 @@ fn taken(alloc: Global, tree: TreeId, lease: Lease, root: Option<Blob>, intake: 
 }
 
 /// What is known before the first key of a run. Takes no memory.
-fn chart_of(alloc: Global, tree: TreeId, root: Option<Blob>, run: Run) -> Chart
+fn chart_of(alloc: Global, tree: TreeId, root: Option<TreeBytes>, run: Run) -> Chart
     ensures { result ≡ chart_of tree root run }
 {
     Chart {

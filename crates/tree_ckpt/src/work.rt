@@ -19,6 +19,7 @@ use tree_phases::descent::Descent;
 use tree_phases::folding::Folding;
 use tree_phases::pages::PageList;
 use tree_phases::rising::Rising;
+use tree_phases::spelled::TreeBytes;
 
 /// How long a tree's lease is given for, in ticks.
 pub const TREE_TICKS: u64 = 60;
@@ -62,7 +63,7 @@ pub enum Work {
     /// The tree object is read next.
     GettingTree(Lease),
     /// The tree's queue is received from next; the tree object was read, none where it was never put.
-    Receiving(Lease, Option<Blob>),
+    Receiving(Lease, Option<TreeBytes>),
     /// An inner node on the way down is read next.
     Descending(Held, Descent),
     /// A leaf's lease is taken next.

@@ -1,4 +1,4 @@
--- The bytes before a pending entry's change, in one array.
+-- The bytes of a counter, and those before a pending entry's change, in one array.
 use Rattle.std.proofs.Common.{◌≡◌, ◌<◌, ◌∷◌, [], ◌++◌, ℕ, List, ◌∙◌, ap, sym, slice_index_or}
 use Rattle.std.specs.Int.{w8, w64, to_be_bytes}
 use Rattle.change_codec.proofs.Appends.{to_be_bytes-byte}

@@ -18,9 +18,9 @@ entries-any before (x ∷ xs) = refl
 written : (out new text tail : List ℕ) → new ≡ out ++ (1 ∷ text) → new ++ tail ≡ out ++ (1 ∷ text ++ tail)
 written out new text tail is = ap (λ (xs : List ℕ). xs ++ tail) is ∙ append_assoc out (1 ∷ text) tail
 
-pub counters_step : (out mid new : List ℕ) (left rest : List QueueCount) (x : QueueCount) → left ≡ x ∷ rest → mid ≡ out ++ 1 ∷ [] → new ≡ mid ++ (counter None).spelling x → new ++ list_spelling counter None rest ≡ out ++ list_spelling counter None left
-counters_step out mid new left rest x is first second =
-    written out new ((counter None).spelling x) (list_spelling counter None rest) (second ∙ ap (λ (xs : List ℕ). xs ++ (counter None).spelling x) first ∙ append_assoc out (1 ∷ []) ((counter None).spelling x))
+pub counters_step : (out new : List ℕ) (left rest : List QueueCount) (x : QueueCount) → left ≡ x ∷ rest → new ≡ out ++ (1 ∷ (counter None).spelling x) → new ++ list_spelling counter None rest ≡ out ++ list_spelling counter None left
+counters_step out new left rest x is written_is =
+    written out new ((counter None).spelling x) (list_spelling counter None rest) written_is
     ∙ ap (λ (tail : List ℕ). out ++ (1 ∷ (counter None).spelling x ++ tail)) (sym (counters-any (Some x) rest))
     ∙ ap (λ (xs : List QueueCount). out ++ list_spelling counter None xs) (sym is)
 

@@ -1,6 +1,6 @@
 //! Counters read from bytes and written to them.
 
-ghost use Rattle.std.specs.Prelude.{◌≡◌, ◌≤◌, ◌++◌, None, OnOk};
+ghost use Rattle.std.specs.Prelude.{◌≡◌, ◌≤◌, ◌∷◌, ◌++◌, None, OnOk};
 ghost use Rattle.std.specs.List.{AllByRecursion};
 ghost use Rattle.std.specs.Option.{option_copied};
 ghost use Rattle.byte_format.specs.Format.{list_spelling};
@@ -8,8 +8,9 @@ ghost use Rattle.byte_format.specs.Gives.{GivesOwned};
 ghost use Rattle.head_codec.specs.Counters.{least_tree, page_rises, counter};
 ghost use Rattle.head_codec.specs.Spelling.{FitsCounter};
 
+use crate::entry::bytes_of;
 use crate::lists::QueueCount;
-use byte_format::{OwnedRules, ReadFault, Stop, try_add_u8, try_add_u64, u8_at, u64_at};
+use byte_format::{OwnedRules, ReadFault, Stop, try_add, try_add_u8, u8_at, u64_at};
 use change_codec::tree_of;
 use std::alloc::{AllocError, Global};
 
@@ -65,14 +66,18 @@ impl OwnedRules for CounterRules {
     }
 }
 
-/// Appends the spelling of a counter.
+/// Appends the spelling of a counter, behind the byte that says that one follows: all at once.
 fn add_counter(out: &mut Vec<u8>, item: &QueueCount) -> Result<(), AllocError>
-    ensures spelling { OnOk result (out.new.items ≡ out.old.items ++ (counter None).spelling item.now) }
+    ensures spelling { OnOk result (out.new.items ≡ out.old.items ++ (1 ∷ (counter None).spelling item.now)) }
     ensures valid { OnOk result (FitsCounter item.now) }
 {
-    try_add_u8(out, item.tree.get() as u8)?;
-    try_add_u64(out, item.page)?;
-    try_add_u64(out, item.number)?;
+    let [a, b, c, d, e, f, g, h] = bytes_of(item.page);
+    let [i, j, k, l, m, n, o, p] = bytes_of(item.number);
+    let tree = item.tree.get() as u8;
+    try_add(
+        out,
+        &[1, tree, a, b, c, d, e, f, g, h, i, j, k, l, m, n, o, p],
+    )?;
     Ok(())
 }
 
@@ -83,7 +88,6 @@ pub fn add_counters(out: &mut Vec<u8>, items: &[QueueCount]) -> Result<(), Alloc
 {
     let mut left = items;
     while let Some((item, rest)) = left.split_first() {
-        try_add_u8(out, 1)?;
         add_counter(out, item)?;
         left = rest;
     }

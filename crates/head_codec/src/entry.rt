@@ -65,7 +65,7 @@ fn room_for(change: &Change) -> usize {
 }
 
 /// The bytes of a number, the most significant one first.
-fn bytes_of(number: u64) -> [u8; 8]
+pub(crate) fn bytes_of(number: u64) -> [u8; 8]
     ensures bytes { result ≡ to_be_bytes w64 number }
     ensures fits { number < 2 ^ 64 }
 {

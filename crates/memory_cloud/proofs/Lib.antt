@@ -1,4 +1,3 @@
-pub mod LockLemmas
 pub mod OutcomeLemmas
 pub mod PagesLemmas
 pub mod QueueLemmas

@@ -26,7 +26,7 @@ use Rattle.cloud_trait.specs.Claim.{Claim}
 use Rattle.cloud_trait.specs.Machine.{Goes, Ends, Stops, LeadsBy, Steps}
 use Rattle.cloud_trait.specs.Seen.{Seen}
 use Rattle.cloud_trait.specs.Views.{done_of, renewed_of}
-use Rattle.cloud_trait.specs.Weather.{Makes, RenewsLease}
+use Rattle.cloud_trait.specs.Weather.{leased, Makes, RenewsLease}
 use Rattle.recover_run.specs.declared.home.Home.{Home}
 use Rattle.recover_run.specs.declared.stage.Aim.TheVariants as aim
 use Rattle.recover_run.specs.declared.stage.RecoverAnswer.TheVariants.{Opened}
@@ -539,7 +539,7 @@ pub record RenewsHome (old new : Home) (who : Caller) (before after : Seen) (res
   pub answer : Heard
   pub made : Makes who (Renew old.lease client_ticks) answer before after
   pub took : renewed_of answer ≡ result
-  pub lease : RenewsLease who client_ticks old.lease new.lease answer before after
+  pub lease : RenewsLease who client_ticks answer (leased old.lease before) (leased new.lease after)
   pub home : new ≡ record old { lease = new.lease }
 
 -- the one step of a renewal: the client stays open, unless memory ran out

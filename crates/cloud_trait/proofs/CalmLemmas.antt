@@ -11,7 +11,7 @@ use Rattle.cloud_trait.specs.Claim.{Claim, Lasts, IsOver}
 use Rattle.cloud_trait.specs.Machine.{Deed, IsMade}
 use Rattle.cloud_trait.specs.State.{CloudState, Counts, newest, called}
 use Rattle.cloud_trait.specs.Delivery.{IsDelivering}
-use Rattle.cloud_trait.specs.Weather.{Weather, FirstOver, Leaves, Rose}
+use Rattle.cloud_trait.specs.Weather.{counted, Weather, FirstOver, Leaves, Rose}
 use Rattle.cloud_trait.specs.Calm.{GoesWell, NamesLasting, TakesFree, IsCalm}
 
 -- a lease that lasts is not over
@@ -32,7 +32,7 @@ not_held now end until p q free same (inr rose) = omega (arith, same, rose)
 
 -- of a row of the table: with no count rising, free locks and lasting leases it is done, or memory ran out
 row_well : (who : Caller) (ask : Ask) (a : Answer) (c d : Counts) (s t : CloudState) (now : ℕ) → d ≡ c → TakesFree ask s now
-    → NamesLasting ask now → (a ≡ Failed → Rose c.faults d.faults) → Weather who ask a c d (called who now s) t → GoesWell a
+    → NamesLasting ask now → (a ≡ Failed → Rose c.faults d.faults) → Weather who ask a (counted c (called who now s)) (counted d t) → GoesWell a
 row_well who ask Failed c d s t now same free lasting failed row = omega (arith, failed refl, ap (λ (x : Counts). x.faults) same)
 row_well who (GetHeld name l) (Late e n) c d s t now same free lasting failed row = not_over now l lasting row.1
 row_well who (PutHeld name bytes one two) (Late e n) c d s t now same free lasting failed row = none_over now one two name bytes e lasting row.1
@@ -70,10 +70,10 @@ row_well who ask Memory c d s t now same free lasting failed row = tt
 record Row (d : Deed) (s : CloudState) : Type 0 where
   after : CloudState
   left : d.after.state ≡ Some after
-  row : Weather d.who d.ask d.answer d.before.counts d.after.counts (called d.who after.now s) after
+  row : Weather d.who d.ask d.answer (counted d.before.counts (called d.who after.now s)) (counted d.after.counts after)
 
 row_of : (d : Deed) (s : CloudState) → IsMade d → d.before.state ≡ Some s → Row d s
-row_of d s made told = let l : Leaves d.who d.ask d.answer d.before.counts d.after.counts s d.after.state = made.state s told in
+row_of d s made told = let l : Leaves d.who d.ask d.answer (counted d.before.counts s) d.after.counts d.after.state = made.state s told in
     record { after = l.after; left = l.told; row = l.row }
 
 state_is : (s t : CloudState) → Some s ≡ Some t → s ≡ t
@@ -88,7 +88,7 @@ goes_well d made calm = well calm.before calm.after calm.told calm.left calm.fre
         let r : Row d s = row_of d s made told in
         on r.after r.row (state_is t r.after (sym left ∙ r.left))
       where
-        on : (u : CloudState) → Weather d.who d.ask d.answer d.before.counts d.after.counts (called d.who u.now s) u → t ≡ u → GoesWell d.answer
+        on : (u : CloudState) → Weather d.who d.ask d.answer (counted d.before.counts (called d.who u.now s)) (counted d.after.counts u) → t ≡ u → GoesWell d.answer
         on u row e = row_well d.who d.ask d.answer d.before.counts d.after.counts s u u.now calm.counts
             (subst (λ (x : CloudState). TakesFree d.ask s x.now) e free) (subst (λ (x : CloudState). NamesLasting d.ask x.now) e lasting) made.failed row
 
@@ -101,10 +101,10 @@ pub delivers : (d : Deed) (queue : QueueName) (most : ℕ) (ms : List Message) (
     → d.answer ≡ Received ms → d.before.state ≡ Some s → IsDelivering (s.messages queue) most ms
 delivers d queue most ms s made calm asks answers told =
     let r : Row d s = row_of d s made told in
-    on r.after (subst (λ (a : Answer). Weather d.who (Receive queue most) a d.before.counts d.after.counts (called d.who r.after.now s) r.after) answers
-    (subst (λ (ask : Ask). Weather d.who ask d.answer d.before.counts d.after.counts (called d.who r.after.now s) r.after) asks r.row))
+    on r.after (subst (λ (a : Answer). Weather d.who (Receive queue most) a (counted d.before.counts (called d.who r.after.now s)) (counted d.after.counts r.after)) answers
+    (subst (λ (ask : Ask). Weather d.who ask d.answer (counted d.before.counts (called d.who r.after.now s)) (counted d.after.counts r.after)) asks r.row))
   where
-    on : (u : CloudState) → Weather d.who (Receive queue most) (Received ms) d.before.counts d.after.counts (called d.who u.now s) u
+    on : (u : CloudState) → Weather d.who (Receive queue most) (Received ms) (counted d.before.counts (called d.who u.now s)) (counted d.after.counts u)
         → IsDelivering (s.messages queue) most ms
     on u row = elim row.2 [ inl here ↦ here | inr rose ↦ absurd (steady d calm (λ (c : Counts). c.withheld) rose) ]
 
@@ -113,8 +113,8 @@ pub reads_newest : (d : Deed) (name : ObjName) (v : Option (List ℕ)) (s : Clou
     → d.before.state ≡ Some s → v ≡ newest s name
 reads_newest d name v s made calm asks answers told =
     let r : Row d s = row_of d s made told in
-    on r.after (subst (λ (a : Answer). Weather d.who (Get name) a d.before.counts d.after.counts (called d.who r.after.now s) r.after) answers
-    (subst (λ (ask : Ask). Weather d.who ask d.answer d.before.counts d.after.counts (called d.who r.after.now s) r.after) asks r.row))
+    on r.after (subst (λ (a : Answer). Weather d.who (Get name) a (counted d.before.counts (called d.who r.after.now s)) (counted d.after.counts r.after)) answers
+    (subst (λ (ask : Ask). Weather d.who ask d.answer (counted d.before.counts (called d.who r.after.now s)) (counted d.after.counts r.after)) asks r.row))
   where
-    on : (u : CloudState) → Weather d.who (Get name) (Got v) d.before.counts d.after.counts (called d.who u.now s) u → v ≡ newest s name
+    on : (u : CloudState) → Weather d.who (Get name) (Got v) (counted d.before.counts (called d.who u.now s)) (counted d.after.counts u) → v ≡ newest s name
     on u row = elim row.2 [ inl here ↦ here | inr rose ↦ absurd (steady d calm (λ (c : Counts). c.stale) rose) ]

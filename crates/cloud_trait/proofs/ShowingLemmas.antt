@@ -8,7 +8,7 @@ use Rattle.cloud_trait.specs.Caller.{Caller}
 use Rattle.cloud_trait.specs.Names.{object_cmp}
 use Rattle.cloud_trait.specs.Seen.{Showing}
 use Rattle.cloud_trait.specs.State.{CloudState, Counts, put_at, newest, newest_of, stored}
-use Rattle.cloud_trait.specs.Weather.{Weather, LeavesShown, GoesOnShowing}
+use Rattle.cloud_trait.specs.Weather.{counted, Weather, LeavesShown, GoesOnShowing}
 use Rattle.cloud_trait.proofs.EffectLemmas.{effect_versions}
 use Rattle.cloud_trait.proofs.RowLemmas.{row_by}
 use Rattle.cloud_trait.proofs.StateLemmas.{newest_of-push}
@@ -49,7 +49,7 @@ effect_shows who (Renew l ticks) s = λ object. ap (λ vs. newest_of (vs object)
 effect_shows who (Release l) s = λ object. ap (λ vs. newest_of (vs object)) (effect_versions who (Release l) s tt)
 
 -- newest versions are shown, whatever a call answers
-pub row_shows : (who : Caller) (ask : Ask) (a : Answer) (c d : Counts) (b t : CloudState) → Weather who ask a c d b t → GoesOnShowing ask (Some (newest b)) (Some (newest t))
+pub row_shows : (who : Caller) (ask : Ask) (a : Answer) (c d : Counts) (b t : CloudState) → Weather who ask a (counted c b) (counted d t) → GoesOnShowing ask (Some (newest b)) (Some (newest t))
 row_shows who ask a c d b t row p e = (newest t, refl, subst (λ (x : Showing). LeavesShown ask x (newest t)) (on e) row_leaves)
   where
     on : Some (newest b) ≡ Some p → newest b ≡ p

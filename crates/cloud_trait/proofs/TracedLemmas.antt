@@ -17,7 +17,7 @@ use Rattle.cloud_trait.specs.Caller.{Caller}
 use Rattle.cloud_trait.specs.Names.{object_cmp, queue_cmp}
 use Rattle.cloud_trait.specs.State.{CloudState, Counts, IsEmptyCloud, called, put_at, held_so, end_after, mark_at, marked}
 use Rattle.cloud_trait.specs.Ask.{Ask, Get, GetHeld, PutHeld, ListHeld, RemoveHeld, Send, Receive, Delete, Take, Renew, Release, effect}
-use Rattle.cloud_trait.specs.Weather.{Leaves}
+use Rattle.cloud_trait.specs.Weather.{counted, Leaves}
 use Rattle.cloud_trait.specs.Traced.{is_object, is_queue, object_rows, queue_rows, version_rows, post_rows, IsTraced}
 use Rattle.cloud_trait.proofs.NameLemmas.{object_cmp-equal, queue_cmp-equal}
 use Rattle.cloud_trait.proofs.EffectLemmas.{moved_by, released_by}
@@ -144,7 +144,7 @@ effect_traced who (Renew l ticks) s h =
 effect_traced who (Release l) s h =
     released_by IsTraced l s (locks_traced s (held_so l.lock (record { generation = l.generation; until = s.now }) s) refl refl refl h) h
 
-pub leaves_traced : (who : Caller) (ask : Ask) (a : Answer) (c d : Counts) (s : CloudState) (new : Option CloudState) (l : Leaves who ask a c d s new) → IsTraced s → IsTraced l.after
+pub leaves_traced : (who : Caller) (ask : Ask) (a : Answer) (c d : Counts) (s : CloudState) (new : Option CloudState) (l : Leaves who ask a (counted c s) d new) → IsTraced s → IsTraced l.after
 leaves_traced who ask a c d s new l h =
     let begun : IsTraced (called who l.after.now s) = locks_traced s (called who l.after.now s) refl refl refl h in
     leaves_by IsTraced who ask a c d s new l begun (λ permits. effect_traced who ask (called who l.after.now s) begun)

@@ -13,7 +13,7 @@ use Rattle.cloud_trait.specs.Ask.{Get, GetHeld, ListHeld, RemoveHeld, Send, Rece
 use Rattle.cloud_trait.specs.Caller.{Caller}
 use Rattle.cloud_trait.specs.Claim.{Claim}
 use Rattle.cloud_trait.specs.Seen.{Seen}
-use Rattle.cloud_trait.specs.Weather.{Makes, RenewsLease}
+use Rattle.cloud_trait.specs.Weather.{leased, Makes, RenewsLease}
 
 abbrev pub MakesGet : Caller → ObjName → Result (Option (List ℕ)) CloudFault → Seen → Seen → Type 0
 MakesGet who name result old new = Makes who (Get name) (got_answer result) old new
@@ -48,4 +48,4 @@ MakesRenew who ticks lease result old new = Makes who (Renew lease.0 ticks) (ren
 
 -- and what it leaves of the lease
 abbrev pub SetsLease : {A : Type 0} → Caller → ℕ → Claim × Claim → Result A HeldFault → Seen → Seen → Type 0
-SetsLease who ticks lease result old new = RenewsLease who ticks lease.0 lease.1 (renewal lease.1 result) old new
+SetsLease who ticks lease result old new = RenewsLease who ticks (renewal lease.1 result) (leased lease.0 old) (leased lease.1 new)

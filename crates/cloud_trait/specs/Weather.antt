@@ -28,32 +28,40 @@ abbrev pub FirstOver : ℕ → Claim → Option Claim → ℕ → Type 0
 FirstOver now one two end =
     (IsOver now one × (end ≡ one.end)) ⊎ (Lasts now one × IsSomeAnd two (λ l. IsOver now l × (end ≡ l.end)))
 
+-- the counts of a cloud, with a state of it
+pub record Counted : Type 0 where
+  pub counts : Counts
+  pub state : CloudState
+
+abbrev pub counted : Counts → CloudState → Counted
+counted counts state = record { counts = counts; state = state }
+
 -- what a call may answer and leave, from the state that differs from the one before in the clock, the
 -- newest call and the wish alone
-abbrev pub Weather : Caller → Ask → Answer → Counts → Counts → CloudState → CloudState → Type 0
-Weather who ask Failed c d b t = (t ≡ b) ⊎ Lands who ask b t
-Weather who ask Memory c d b t = t ≡ b
-Weather who (Get name) (Got v) c d b t =
-    (t ≡ b) × ((k : ℕ) × (v ≡ version_at (b.versions name) k)) × ((v ≡ newest b name) ⊎ Rose c.stale d.stale)
-Weather who (GetHeld name l) (Got v) c d b t = (t ≡ b) × Lasts b.now l × (v ≡ newest b name)
-Weather who (GetHeld name l) (Late e n) c d b t = (t ≡ b) × IsOver b.now l × (e ≡ l.end) × (n ≡ b.now)
-Weather who (PutHeld name bytes one two) Done c d b t = Lands who (PutHeld name bytes one two) b t
-Weather who (PutHeld name bytes one two) (Late e n) c d b t = (t ≡ b) × FirstOver b.now one two e × (n ≡ b.now)
-Weather who (ListHeld tree l) (Listed ps) c d b t = (t ≡ b) × Lasts b.now l × IsListing b tree ps
-Weather who (ListHeld tree l) (Late e n) c d b t = (t ≡ b) × IsOver b.now l × (e ≡ l.end) × (n ≡ b.now)
-Weather who (RemoveHeld name l) Done c d b t = Lands who (RemoveHeld name l) b t
-Weather who (RemoveHeld name l) (Late e n) c d b t = (t ≡ b) × IsOver b.now l × (e ≡ l.end) × (n ≡ b.now)
-Weather who (Send queue bytes) (Sent id) c d b t = Lands who (Send queue bytes) b t × (id ≡ length (b.messages queue) + 1)
-Weather who (Receive queue most) (Received ms) c d b t =
-    (t ≡ b) × All (WasSent (b.messages queue)) ms × (IsDelivering (b.messages queue) most ms ⊎ Rose c.withheld d.withheld)
-Weather who (Delete queue id) Done c d b t = Lands who (Delete queue id) b t
-Weather who (Take lock ticks) (Given l) c d b t = Lands who (Take lock ticks) b t × (l ≡ lease_given lock ticks b)
-Weather who (Take lock ticks) (Held until) c d b t =
-    (t ≡ b) × (((until ≡ (b.locks lock).until) × (b.now < until)) ⊎ Rose c.withheld d.withheld)
-Weather who (Renew l ticks) (Renewed e) c d b t = Lands who (Renew l ticks) b t × (e ≡ end_after b.now ticks)
-Weather who (Renew l ticks) (Late e n) c d b t = (t ≡ b) × IsOver b.now l × (e ≡ l.end) × (n ≡ b.now)
-Weather who (Release l) Done c d b t = Lands who (Release l) b t
-Weather who ask answer c d b t = ⊥
+abbrev pub Weather : Caller → Ask → Answer → Counted → Counted → Type 0
+Weather who ask Failed from to = (to.state ≡ from.state) ⊎ Lands who ask from.state to.state
+Weather who ask Memory from to = to.state ≡ from.state
+Weather who (Get name) (Got v) from to =
+    (to.state ≡ from.state) × ((k : ℕ) × (v ≡ version_at (from.state.versions name) k)) × ((v ≡ newest from.state name) ⊎ Rose from.counts.stale to.counts.stale)
+Weather who (GetHeld name l) (Got v) from to = (to.state ≡ from.state) × Lasts from.state.now l × (v ≡ newest from.state name)
+Weather who (GetHeld name l) (Late e n) from to = (to.state ≡ from.state) × IsOver from.state.now l × (e ≡ l.end) × (n ≡ from.state.now)
+Weather who (PutHeld name bytes one two) Done from to = Lands who (PutHeld name bytes one two) from.state to.state
+Weather who (PutHeld name bytes one two) (Late e n) from to = (to.state ≡ from.state) × FirstOver from.state.now one two e × (n ≡ from.state.now)
+Weather who (ListHeld tree l) (Listed ps) from to = (to.state ≡ from.state) × Lasts from.state.now l × IsListing from.state tree ps
+Weather who (ListHeld tree l) (Late e n) from to = (to.state ≡ from.state) × IsOver from.state.now l × (e ≡ l.end) × (n ≡ from.state.now)
+Weather who (RemoveHeld name l) Done from to = Lands who (RemoveHeld name l) from.state to.state
+Weather who (RemoveHeld name l) (Late e n) from to = (to.state ≡ from.state) × IsOver from.state.now l × (e ≡ l.end) × (n ≡ from.state.now)
+Weather who (Send queue bytes) (Sent id) from to = Lands who (Send queue bytes) from.state to.state × (id ≡ length (from.state.messages queue) + 1)
+Weather who (Receive queue most) (Received ms) from to =
+    (to.state ≡ from.state) × All (WasSent (from.state.messages queue)) ms × (IsDelivering (from.state.messages queue) most ms ⊎ Rose from.counts.withheld to.counts.withheld)
+Weather who (Delete queue id) Done from to = Lands who (Delete queue id) from.state to.state
+Weather who (Take lock ticks) (Given l) from to = Lands who (Take lock ticks) from.state to.state × (l ≡ lease_given lock ticks from.state)
+Weather who (Take lock ticks) (Held until) from to =
+    (to.state ≡ from.state) × (((until ≡ (from.state.locks lock).until) × (from.state.now < until)) ⊎ Rose from.counts.withheld to.counts.withheld)
+Weather who (Renew l ticks) (Renewed e) from to = Lands who (Renew l ticks) from.state to.state × (e ≡ end_after from.state.now ticks)
+Weather who (Renew l ticks) (Late e n) from to = (to.state ≡ from.state) × IsOver from.state.now l × (e ≡ l.end) × (n ≡ from.state.now)
+Weather who (Release l) Done from to = Lands who (Release l) from.state to.state
+Weather who ask answer from to = ⊥
 
 -- what holds of an answer also over a cloud that tells no state
 abbrev pub Fits : Ask → Answer → Type 0
@@ -79,11 +87,11 @@ Fits (Release l) Done = Unit {0}
 Fits ask answer = ⊥
 
 -- what a call leaves of a told state: the clock does not fall, and the table's row holds
-pub record Leaves (who : Caller) (ask : Ask) (answer : Answer) (c d : Counts) (s : CloudState) (new : Option CloudState) : Type 0 where
+pub record Leaves (who : Caller) (ask : Ask) (answer : Answer) (from : Counted) (d : Counts) (new : Option CloudState) : Type 0 where
   pub after : CloudState
   pub told : new ≡ Some after
-  pub later : s.now ≤ after.now
-  pub row : Weather who ask answer c d (called who after.now s) after
+  pub later : from.state.now ≤ after.now
+  pub row : Weather who ask answer (counted from.counts (called who after.now from.state)) (counted d after)
 
 -- what a call may leave of what looks show: all, or of a put or a removal all but its object, which has the new bytes or none
 abbrev pub LeavesShown : Ask → Showing → Showing → Type 0
@@ -107,23 +115,32 @@ pub record Makes (who : Caller) (ask : Ask) (answer : Answer) (old new : Seen) :
   pub failed : answer ≡ Failed → Rose old.counts.faults new.counts.faults
   pub memory : answer ≡ Memory → new.counts ≡ old.counts
   pub shown : GoesOnShowing ask old.shown new.shown
-  pub state : (s : CloudState) → old.state ≡ Some s → Leaves who ask answer old.counts new.counts s new.state
+  pub state : (s : CloudState) → old.state ≡ Some s → Leaves who ask answer (counted old.counts s) new.counts new.state
 
 -- what a failed renewal leaves of a told state and of the lease: both as they were, or both renewed
 abbrev pub RenewsBoth : Caller → ℕ → Claim → Claim → CloudState → CloudState → Type 0
 RenewsBoth who ticks l m b t =
     ((t ≡ b) × (m ≡ l)) ⊎ (Lands who (Renew l ticks) b t × (m ≡ extended l (end_after b.now ticks)))
 
+-- a lease, with what is seen of the cloud
+pub record Leased : Type 0 where
+  pub lease : Claim
+  pub seen : Seen
+
+abbrev pub leased : Claim → Seen → Leased
+leased lease seen = record { lease = lease; seen = seen }
+
 -- what a renewal leaves of the lease
-abbrev pub RenewsLease : Caller → ℕ → Claim → Claim → Answer → Seen → Seen → Type 0
-RenewsLease who ticks l m (Renewed e) old new = m ≡ extended l e
-RenewsLease who ticks l m Failed old new =
-    (m ≡ extended l m.end) × ((s t : CloudState) → old.state ≡ Some s → new.state ≡ Some t → RenewsBoth who ticks l m (called who t.now s) t)
-RenewsLease who ticks l m answer old new = m ≡ l
+abbrev pub RenewsLease : Caller → ℕ → Answer → Leased → Leased → Type 0
+RenewsLease who ticks (Renewed e) old new = new.lease ≡ extended old.lease e
+RenewsLease who ticks Failed old new =
+    (new.lease ≡ extended old.lease new.lease.end)
+    × ((s t : CloudState) → old.seen.state ≡ Some s → new.seen.state ≡ Some t → RenewsBoth who ticks old.lease new.lease (called who t.now s) t)
+RenewsLease who ticks answer old new = new.lease ≡ old.lease
 
 -- a renewal that left the lease as it was, as this answer says
 abbrev pub LeavesLeases : Caller → Answer → Seen → Seen → Type 0
-LeavesLeases who answer old new = (ticks : ℕ) (l : Claim) → RenewsLease who ticks l l answer old new
+LeavesLeases who answer old new = (ticks : ℕ) (l : Claim) → RenewsLease who ticks answer (leased l old) (leased l new)
 
 -- whatever was asked, it was answered so
 abbrev pub MakesAny : Caller → Answer → Seen → Seen → Type 0

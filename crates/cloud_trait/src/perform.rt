@@ -1,7 +1,7 @@
 ghost use Rattle.std.specs.Prelude.{◌≡◌};
 ghost use Rattle.cloud_trait.specs.Ask.{Renew, Release};
 ghost use Rattle.cloud_trait.specs.Call.{ask_of, Lends};
-ghost use Rattle.cloud_trait.specs.Weather.{Makes, RenewsLease};
+ghost use Rattle.cloud_trait.specs.Weather.{leased, Makes, RenewsLease};
 
 use crate::answer::Answer;
 use crate::call::Call;
@@ -75,7 +75,7 @@ pub fn let_go<C: Cloud>(cloud: &mut C, who: Who, lease: Lease) -> Answer
 /// Renews a lease for some ticks from now.
 pub fn renew<C: Cloud>(cloud: &mut C, who: Who, lease: &mut Lease, ticks: u64) -> Answer
     ensures made { Makes who (Renew lease.old ticks) result (C.seen cloud.old) (C.seen cloud.new) }
-    ensures lease { RenewsLease who ticks lease.old lease.new result (C.seen cloud.old) (C.seen cloud.new) }
+    ensures lease { RenewsLease who ticks result (leased lease.old (C.seen cloud.old)) (leased lease.new (C.seen cloud.new)) }
 {
     match cloud.renew(who, lease, ticks) {
         Ok(()) => Answer::Renewed(lease.end()),

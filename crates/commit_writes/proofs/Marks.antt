@@ -12,7 +12,7 @@ use Rattle.cloud_trait.specs.declared.state.Posted.{Posted}
 use Rattle.cloud_trait.specs.State.{CloudState, called, mark_at, marked}
 use Rattle.cloud_trait.specs.Names.{queue_cmp}
 use Rattle.cloud_trait.specs.Machine.{IsMade}
-use Rattle.cloud_trait.specs.Weather.{Leaves, Weather}
+use Rattle.cloud_trait.specs.Weather.{counted, Leaves, Weather}
 use Rattle.cloud_trait.proofs.StateLemmas.{put_at_same}
 use Rattle.cloud_trait.proofs.NameLemmas.{queue_cmp-total}
 use Rattle.cloud_trait.specs.Calm.{GoesWell, IsCalm, AreCalm, ComesNext, AreAlone}
@@ -77,10 +77,10 @@ the_state s t e = cc (e)
 -- the message is marked in the state behind it
 pub deletes : (x : Deed) (q : QueueName) (id : ℕ) (s t : CloudState) → IsMade x → x.ask ≡ Delete q id → x.answer ≡ Done → x.before.state ≡ Some s → x.after.state ≡ Some t → t.messages q ≡ marked (s.messages q) id
 deletes x q id s t made asks answers told left =
-    let l : Leaves x.who x.ask x.answer x.before.counts x.after.counts s x.after.state = made.state s told in
-    let row : Weather x.who (Delete q id) Done x.before.counts x.after.counts (called x.who l.after.now s) l.after =
-    subst (λ (a : Answer). Weather x.who (Delete q id) a x.before.counts x.after.counts (called x.who l.after.now s) l.after) answers
-    (subst (λ (k : Ask). Weather x.who k x.answer x.before.counts x.after.counts (called x.who l.after.now s) l.after) asks l.row) in
+    let l : Leaves x.who x.ask x.answer (counted x.before.counts s) x.after.counts x.after.state = made.state s told in
+    let row : Weather x.who (Delete q id) Done (counted x.before.counts (called x.who l.after.now s)) (counted x.after.counts l.after) =
+    subst (λ (a : Answer). Weather x.who (Delete q id) a (counted x.before.counts (called x.who l.after.now s)) (counted x.after.counts l.after)) answers
+    (subst (λ (k : Ask). Weather x.who k x.answer (counted x.before.counts (called x.who l.after.now s)) (counted x.after.counts l.after)) asks l.row) in
     let same : l.after ≡ t = the_state l.after t (sym l.told ∙ left) in
     subst (λ (u : CloudState). u.messages q ≡ marked (s.messages q) id) same
     (ap (λ (u : CloudState). u.messages q) row.0 ∙ put_at_same queue_cmp queue_cmp-total s.messages q (marked (s.messages q) id))

@@ -24,7 +24,7 @@ use Rattle.cloud_trait.specs.State.{CloudState, Counts, greatest, newest, newest
 use Rattle.cloud_trait.specs.Seen.{Seen}
 use Rattle.cloud_trait.specs.Delivery.{unmarked, unmarked_from, WasSent}
 use Rattle.cloud_trait.specs.Ask.{Ask, Get, GetHeld, PutHeld, ListHeld, RemoveHeld, Send, Receive, Delete, Take, Renew, Release, effect, Lands}
-use Rattle.cloud_trait.specs.Weather.{Weather, Fits, Makes, Leaves, Rises, RenewsBoth, RenewsLease}
+use Rattle.cloud_trait.specs.Weather.{leased, counted, Weather, Fits, Makes, Leaves, Rises, RenewsBoth, RenewsLease}
 use Rattle.cloud_trait.proofs.RowLemmas.{row_rest}
 use Rattle.cloud_trait.proofs.ShowingLemmas.{row_shows}
 use Rattle.memory_cloud.specs.Choice.{chosen}
@@ -47,10 +47,10 @@ record IsRow (who : Caller) (ask : Ask) (a : Answer) (c d : Counts) (b t : Cloud
   dark : d.dark ≡ c.dark
   failed : a ≡ Failed → c.faults < d.faults
   memory : a ≡ Memory → d ≡ c
-  row : Weather who ask a c d b t
+  row : Weather who ask a (counted c b) (counted d t)
 
 -- a row that raises no count
-quiet : (who : Caller) (ask : Ask) (a : Answer) (c : Counts) (b t : CloudState) → Fits ask a → (a ≡ Failed → ⊥) → Weather who ask a c c b t → IsRow who ask a c c b t
+quiet : (who : Caller) (ask : Ask) (a : Answer) (c : Counts) (b t : CloudState) → Fits ask a → (a ≡ Failed → ⊥) → Weather who ask a (counted c b) (counted c t) → IsRow who ask a c c b t
 quiet who ask a c b t fits never row = record {
   fits = fits;
   counts = record { faults = omega arith; withheld = omega arith; stale = omega arith; dark = omega arith };
@@ -72,7 +72,7 @@ failing who ask c b t row = record {
 }
 
 -- a row that withheld something
-withholding : (who : Caller) (ask : Ask) (a : Answer) (c : Counts) (b t : CloudState) → Fits ask a → (a ≡ Failed → ⊥) → (a ≡ Memory → ⊥) → Weather who ask a c (one_withheld c) b t → IsRow who ask a c (one_withheld c) b t
+withholding : (who : Caller) (ask : Ask) (a : Answer) (c : Counts) (b t : CloudState) → Fits ask a → (a ≡ Failed → ⊥) → (a ≡ Memory → ⊥) → Weather who ask a (counted c b) (counted (one_withheld c) t) → IsRow who ask a c (one_withheld c) b t
 withholding who ask a c b t fits never full row = record {
   fits = fits;
   counts = record { faults = omega arith; withheld = omega arith; stale = omega arith; dark = omega arith };
@@ -83,7 +83,7 @@ withholding who ask a c b t fits never full row = record {
 }
 
 -- a row that is stale
-staling : (who : Caller) (ask : Ask) (a : Answer) (c : Counts) (b t : CloudState) → Fits ask a → (a ≡ Failed → ⊥) → (a ≡ Memory → ⊥) → Weather who ask a c (one_stale c) b t → IsRow who ask a c (one_stale c) b t
+staling : (who : Caller) (ask : Ask) (a : Answer) (c : Counts) (b t : CloudState) → Fits ask a → (a ≡ Failed → ⊥) → (a ≡ Memory → ⊥) → Weather who ask a (counted c b) (counted (one_stale c) t) → IsRow who ask a c (one_stale c) b t
 staling who ask a c b t fits never full row = record {
   fits = fits;
   counts = record { faults = omega arith; withheld = omega arith; stale = omega arith; dark = omega arith };
@@ -259,9 +259,9 @@ obeys_makes : (m : Mood) (who : Caller) (ask : Ask) (a : Answer) (c d : Counts) 
 obeys_makes m who ask a c d s t o =
     let r = obeys_row m who ask a c d (called who s.now s) t o in
     let still : t.now ≡ s.now = (row_rest who ask a c d (called who s.now s) t r.row).now in
-    let P : ℕ → Type 0 = λ n. Weather who ask a c d (called who n s) t in
-    let leaves : Leaves who ask a c d s (Some t) = record { after = t; told = refl; later = omega arith; row = subst P (sym still) r.row } in
-    let Q : CloudState → Type 0 = λ u. Leaves who ask a c d u (Some t) in
+    let P : ℕ → Type 0 = λ n. Weather who ask a (counted c (called who n s)) (counted d t) in
+    let leaves : Leaves who ask a (counted c s) d (Some t) = record { after = t; told = refl; later = omega arith; row = subst P (sym still) r.row } in
+    let Q : CloudState → Type 0 = λ u. Leaves who ask a (counted c u) d (Some t) in
     record {
       fits = r.fits;
       heard = λ x e. absurd (cc (e));
@@ -298,7 +298,7 @@ renews_in m who l ticks a b e =
     subst P (sym e) (renews_plain who l ticks b)
 
 -- the same between the states that are told
-renews_told : (who : Caller) (ticks : ℕ) (l m : Claim) (a : Answer) (c d : Counts) (s t : CloudState) → t.now ≡ s.now → RenewsRow who ticks l m a (called who s.now s) t → RenewsLease who ticks l m a (told c s) (told d t)
+renews_told : (who : Caller) (ticks : ℕ) (l m : Claim) (a : Answer) (c d : Counts) (s t : CloudState) → t.now ≡ s.now → RenewsRow who ticks l m a (called who s.now s) t → RenewsLease who ticks a (leased l (told c s)) (leased m (told d t))
 renews_told who ticks l m (Renewed e) c d s t n r = r
 renews_told who ticks l m Failed c d s t n r = (
   r.0,
@@ -313,7 +313,7 @@ renews_told who ticks l m Failed c d s t n r = (
 renews_told who ticks l m a c d s t n r = r
 
 -- a renewal that obeys its mood leaves the lease as a renewal does
-obeys_renews : (m : Mood) (who : Caller) (l n : Claim) (ticks : ℕ) (a : Answer) (c d : Counts) (s t : CloudState) → Follows m who (Renew l ticks) a (c, called who s.now s) (d, t) → (a ≡ Memory → ⊥) → n ≡ lease_in m l ticks (called who s.now s) → RenewsLease who ticks l n a (told c s) (told d t)
+obeys_renews : (m : Mood) (who : Caller) (l n : Claim) (ticks : ℕ) (a : Answer) (c d : Counts) (s t : CloudState) → Follows m who (Renew l ticks) a (c, called who s.now s) (d, t) → (a ≡ Memory → ⊥) → n ≡ lease_in m l ticks (called who s.now s) → RenewsLease who ticks a (leased l (told c s)) (leased n (told d t))
 obeys_renews m who l n ticks a c d s t (inr o) never e = absurd (never o.0)
 obeys_renews m who l n ticks a c d s t (inl o) never e =
     let r = obeys_row m who (Renew l ticks) a c d (called who s.now s) t (inl o) in
@@ -331,7 +331,7 @@ untold_makes : (planted : Bool) (who : Caller) (ask : Ask) (a : Answer) (c d : C
 untold_makes false who ask a c d s t m = m
 untold_makes true who ask a c d s t m = record { fits = m.fits; heard = m.heard; counts = m.counts; dark = m.dark; failed = m.failed; memory = m.memory; shown = m.shown; state = λ u e. absurd (cc (e)) }
 
-untold_renews : (planted : Bool) (who : Caller) (ticks : ℕ) (l n : Claim) (a : Answer) (c d : Counts) (s t : CloudState) → RenewsLease who ticks l n a (told c s) (told d t) → RenewsLease who ticks l n a (seen_in planted c s) (seen_in planted d t)
+untold_renews : (planted : Bool) (who : Caller) (ticks : ℕ) (l n : Claim) (a : Answer) (c d : Counts) (s t : CloudState) → RenewsLease who ticks a (leased l (told c s)) (leased n (told d t)) → RenewsLease who ticks a (leased l (seen_in planted c s)) (leased n (seen_in planted d t))
 untold_renews false who ticks l n a c d s t r = r
 untold_renews true who ticks l n (Renewed e) c d s t r = r
 untold_renews true who ticks l n Failed c d s t r = (r.0, λ u v e f. absurd (cc (e)))
@@ -345,12 +345,12 @@ begun_makes p q m who ask a c e d s b t still is same o =
     let R : Bool → Type 0 = λ x. Makes who ask a (seen_in p c s) (seen_in x d t) in
     subst R (sym still) (untold_makes p who ask a c d s t (obeys_makes m who ask a c d s t (subst Q same (subst P is o))))
 
-pub begun_renews : (p q : Bool) (m : Mood) (who : Caller) (l n : Claim) (ticks : ℕ) (a : Answer) (c e d : Counts) (s b t : CloudState) → q ≡ p → b ≡ called who s.now s → e ≡ c → Follows m who (Renew l ticks) a (e, b) (d, t) → (a ≡ Memory → ⊥) → n ≡ lease_in m l ticks b → RenewsLease who ticks l n a (seen_in p c s) (seen_in q d t)
+pub begun_renews : (p q : Bool) (m : Mood) (who : Caller) (l n : Claim) (ticks : ℕ) (a : Answer) (c e d : Counts) (s b t : CloudState) → q ≡ p → b ≡ called who s.now s → e ≡ c → Follows m who (Renew l ticks) a (e, b) (d, t) → (a ≡ Memory → ⊥) → n ≡ lease_in m l ticks b → RenewsLease who ticks a (leased l (seen_in p c s)) (leased n (seen_in q d t))
 begun_renews p q m who l n ticks a c e d s b t still is same o never lease =
     let P : CloudState → Type 0 = λ x. Follows m who (Renew l ticks) a (e, x) (d, t) in
     let Q : Counts → Type 0 = λ x. Follows m who (Renew l ticks) a (x, called who s.now s) (d, t) in
     let R : CloudState → Type 0 = λ x. n ≡ lease_in m l ticks x in
-    let S : Bool → Type 0 = λ x. RenewsLease who ticks l n a (seen_in p c s) (seen_in x d t) in
+    let S : Bool → Type 0 = λ x. RenewsLease who ticks a (leased l (seen_in p c s)) (leased n (seen_in x d t)) in
     subst S (sym still) (untold_renews p who ticks l n a c d s t (obeys_renews m who l n ticks a c d s t (subst Q same (subst P is o)) never (subst R is lease)))
 
 -- a renewal that does not answer want of memory

@@ -16,7 +16,7 @@ use Rattle.cloud_trait.specs.Delivery.{unmarked}
 use Rattle.cloud_trait.specs.Machine.{Goes, LeadsBy, Came, Deed, IsMade, calls_of}
 use Rattle.cloud_trait.specs.Names.{queue_cmp}
 use Rattle.cloud_trait.specs.State.{CloudState, Counts, called, marked}
-use Rattle.cloud_trait.specs.Weather.{Weather, Leaves}
+use Rattle.cloud_trait.specs.Weather.{counted, Weather, Leaves}
 use Rattle.cloud_trait.proofs.EffectLemmas.{effect_messages}
 use Rattle.cloud_trait.proofs.NameLemmas.{queue_cmp-equal}
 use Rattle.cloud_trait.proofs.RowLemmas.{row_by}
@@ -63,12 +63,12 @@ along I Q client aim old first start step (last ∷ h) d r (from, came, asks, ma
 
 -- the row of the table
 pub row_of_move : (from : Recovery) (d : Deed) (b t : CloudState) → Moves from d b t
-    → Weather d.who (recovery_ask from) d.answer d.before.counts d.after.counts (called d.who t.now b) t
+    → Weather d.who (recovery_ask from) d.answer (counted d.before.counts (called d.who t.now b)) (counted d.after.counts t)
 row_of_move from d b t m =
-    let l : Leaves d.who d.ask d.answer d.before.counts d.after.counts b d.after.state = m.made.state b m.before in
+    let l : Leaves d.who d.ask d.answer (counted d.before.counts b) d.after.counts d.after.state = m.made.state b m.before in
     let same : l.after ≡ t = state_is l.after t (sym l.told ∙ m.after) in
-    subst (λ (ask : Ask). Weather d.who ask d.answer d.before.counts d.after.counts (called d.who t.now b) t) m.asks
-    (subst (λ (u : CloudState). Weather d.who d.ask d.answer d.before.counts d.after.counts (called d.who u.now b) u) same l.row)
+    subst (λ (ask : Ask). Weather d.who ask d.answer (counted d.before.counts (called d.who t.now b)) (counted d.after.counts t)) m.asks
+    (subst (λ (u : CloudState). Weather d.who d.ask d.answer (counted d.before.counts (called d.who u.now b)) (counted d.after.counts u)) same l.row)
 
 -- ---- the queue
 
@@ -86,7 +86,7 @@ effect_shrinks who (Delete other id) s q h =
     put_at_by (λ k v. Shrunk (s.messages k) v) queue_cmp queue_cmp-equal s.messages other (marked (s.messages other) id) (inr (id, refl)) (λ k. inl refl) q
 effect_shrinks who ask s q h = inl (ap (λ (f : QueueName → List Posted). f q) (effect_messages who ask s tt))
 
-row_shrinks : (who : Caller) (ask : Ask) (a : Answer) (c d : Counts) (b t : CloudState) (q : QueueName) → Weather who ask a c d b t → SendsNot q ask
+row_shrinks : (who : Caller) (ask : Ask) (a : Answer) (c d : Counts) (b t : CloudState) (q : QueueName) → Weather who ask a (counted c b) (counted d t) → SendsNot q ask
     → Shrunk (b.messages q) (t.messages q)
 row_shrinks who ask a c d b t q row h = row_by (λ u. Shrunk (b.messages q) (u.messages q)) who ask a c d b t row (inl refl) (λ permits. effect_shrinks who ask b q h)
 

@@ -16,7 +16,7 @@ use Rattle.cloud_trait.specs.Machine.{Ends, LeadsBy, Came, Deed, Took, calls_of}
 use Rattle.cloud_trait.specs.Names.{queue_cmp}
 use Rattle.cloud_trait.specs.Seen.{Seen}
 use Rattle.cloud_trait.specs.State.{CloudState, Counts, called, marked}
-use Rattle.cloud_trait.specs.Weather.{Weather, Makes}
+use Rattle.cloud_trait.specs.Weather.{counted, Weather, Makes}
 use Rattle.cloud_trait.proofs.NameLemmas.{queue_cmp-total}
 use Rattle.cloud_trait.proofs.RowLemmas.{row_messages}
 use Rattle.cloud_trait.proofs.StateLemmas.{put_at_same}
@@ -40,7 +40,7 @@ use Rattle.recover_run.proofs.Outcomes as step
 
 -- ---- what a calm call did to the queue
 
-pub delete_marks : (who : Caller) (q : QueueName) (id : ℕ) (a : Answer) (c d : Counts) (b t : CloudState) → Weather who (Delete q id) a c d b t → GoesWell a → a ≢ Memory
+pub delete_marks : (who : Caller) (q : QueueName) (id : ℕ) (a : Answer) (c d : Counts) (b t : CloudState) → Weather who (Delete q id) a (counted c b) (counted d t) → GoesWell a → a ≢ Memory
     → t.messages q ≡ marked (b.messages q) id
 delete_marks who q id Done c d b t row well other =
     ap (λ (u : CloudState). u.messages q) row.0 ∙ put_at_same queue_cmp queue_cmp-total b.messages q (marked (b.messages q) id)
@@ -48,7 +48,7 @@ delete_marks who q id Failed c d b t row well other = absurd well
 delete_marks who q id Memory c d b t row well other = absurd (other refl)
 delete_marks who q id a c d b t row well other = absurd row
 
-deletes_heard : (who : Caller) (r : Recovery) (ids : List ℕ) (a : Answer) (c d : Counts) (b t : CloudState) → 1 ≤ length ids → Weather who (delete_next r ids) a c d b t
+deletes_heard : (who : Caller) (r : Recovery) (ids : List ℕ) (a : Answer) (c d : Counts) (b t : CloudState) → 1 ≤ length ids → Weather who (delete_next r ids) a (counted c b) (counted d t)
     → GoesWell a → a ≢ Memory → Deletes ids (b.messages (queue.Atomic r.client)) (t.messages (queue.Atomic r.client))
 deletes_heard who r [] a c d b t some row well other = absurd (omega (arith, some))
 deletes_heard who r (id ∷ ids) a c d b t some row well other = delete_marks who (queue.Atomic r.client) id a c d b t row well other
@@ -67,9 +67,9 @@ put_epoch : (old : Option Claim) (cs : Calls) (r : Recovery) → Put old cs r �
 put_epoch old cs r k = ap (λ (h : Head). h.epoch) k.head_is ∙ sym (ap (λ (w : Wanted). w.epoch + 1) k.known.wanted_is)
 
 pub row_at : (st : Stage) (from : Recovery) (d : Deed) (b t : CloudState) → from.stage ≡ st → Moves from d b t
-    → Weather d.who (ask_at st from) d.answer d.before.counts d.after.counts (called d.who t.now b) t
+    → Weather d.who (ask_at st from) d.answer (counted d.before.counts (called d.who t.now b)) (counted d.after.counts t)
 row_at st from d b t at m =
-    subst (λ s. Weather d.who (ask_at s from) d.answer d.before.counts d.after.counts (called d.who t.now b) t) at (row_of_move from d b t m)
+    subst (λ s. Weather d.who (ask_at s from) d.answer (counted d.before.counts (called d.who t.now b)) (counted d.after.counts t)) at (row_of_move from d b t m)
 
 -- by the stage; only of a deletion it matters whether memory ran out
 heard_at : (st : Stage) (from : Recovery) (d : Deed) (b t : CloudState) (old : Option Claim) (cs : Calls) → from.stage ≡ st → Moves from d b t → KnowsAt st old cs from

@@ -23,7 +23,7 @@ use Rattle.cloud_trait.specs.Machine.{Goes, Ends, Stops, LeadsBy, Came, Deed, To
 use Rattle.cloud_trait.specs.Seen.{Seen}
 use Rattle.cloud_trait.specs.State.{CloudState, Counts, newest, newest_of, called}
 use Rattle.cloud_trait.specs.Views.{given_of, got_of, sent_of, received_of, done_of, trouble_of}
-use Rattle.cloud_trait.specs.Weather.{Weather, Makes}
+use Rattle.cloud_trait.specs.Weather.{counted, Weather, Makes}
 use Rattle.cloud_trait.proofs.RowLemmas.{row_messages, row_versions}
 use Rattle.cloud_trait.specs.Calm.{IsCalm, AreCalm, AreAlone}
 use Rattle.recover_run.specs.declared.stage.Aim.{Aim}
@@ -199,22 +199,22 @@ under_touches : (r : Recovery) (o : Option Claim) → TouchesNoMessage (under r 
 under_touches r (Some l) = tt
 under_touches r None = tt
 
-held_newest : (who : Caller) (name : ObjName) (l : Claim) (a : Answer) (c d : Counts) (b t : CloudState) → Weather who (GetHeld name l) a c d b t → Reads a (newest b name)
+held_newest : (who : Caller) (name : ObjName) (l : Claim) (a : Answer) (c d : Counts) (b t : CloudState) → Weather who (GetHeld name l) a (counted c b) (counted d t) → Reads a (newest b name)
 held_newest who name l (Got v) c d b t row = row.2
 held_newest who name l a c d b t row = tt
 
-delete_done : (who : Caller) (r : Recovery) (ids : List ℕ) (a : Answer) (c d : Counts) (b t : CloudState) → 1 ≤ length ids → Weather who (delete_next r ids) a c d b t
+delete_done : (who : Caller) (r : Recovery) (ids : List ℕ) (a : Answer) (c d : Counts) (b t : CloudState) → 1 ≤ length ids → Weather who (delete_next r ids) a (counted c b) (counted d t)
     → DeletesDone a ids (b.messages (queue.Atomic r.client)) (t.messages (queue.Atomic r.client))
 delete_done who r [] Done c d b t some row = absurd (omega (arith, some))
 delete_done who r (id ∷ ids) Done c d b t some row = delete_marks who (queue.Atomic r.client) id Done c d b t row tt (λ e. absurd (cc))
 delete_done who r ids a c d b t some row = tt
 
-same_messages : (from : Recovery) (ask : Ask) (d : Deed) (b t : CloudState) → Weather d.who ask d.answer d.before.counts d.after.counts (called d.who t.now b) t → TouchesNoMessage ask
+same_messages : (from : Recovery) (ask : Ask) (d : Deed) (b t : CloudState) → Weather d.who ask d.answer (counted d.before.counts (called d.who t.now b)) (counted d.after.counts t) → TouchesNoMessage ask
     → t.messages (queue.Atomic from.client) ≡ b.messages (queue.Atomic from.client)
 same_messages from ask d b t row touches =
     ap (λ (f : QueueName → List Posted). f (queue.Atomic from.client)) (row_messages d.who ask d.answer d.before.counts d.after.counts (called d.who t.now b) t row touches)
 
-same_newest : (from : Recovery) (ask : Ask) (d : Deed) (b t : CloudState) → Weather d.who ask d.answer d.before.counts d.after.counts (called d.who t.now b) t → PutsNothing ask
+same_newest : (from : Recovery) (ask : Ask) (d : Deed) (b t : CloudState) → Weather d.who ask d.answer (counted d.before.counts (called d.who t.now b)) (counted d.after.counts t) → PutsNothing ask
     → newest t (object.Head from.client) ≡ newest b (object.Head from.client)
 same_newest from ask d b t row puts =
     ap (λ (f : ObjName → List Version). newest_of (f (object.Head from.client))) (row_versions d.who ask d.answer d.before.counts d.after.counts (called d.who t.now b) t row puts)
@@ -228,8 +228,8 @@ heard_at Taking from d b t old cs at m k =
     let row = row_at Taking from d b t at m in
     (same_newest from (ask_at Taking from) d b t row tt, same_messages from (ask_at Taking from) d b t row tt)
 heard_at Getting from d b t old cs at m k =
-    let row : Weather d.who (GetHeld (object.Head from.client) k.lease) d.answer d.before.counts d.after.counts (called d.who t.now b) t =
-    subst (λ ask. Weather d.who ask d.answer d.before.counts d.after.counts (called d.who t.now b) t) (ap (λ n. ask_at Getting n) k.is) (row_at Getting from d b t at m) in (
+    let row : Weather d.who (GetHeld (object.Head from.client) k.lease) d.answer (counted d.before.counts (called d.who t.now b)) (counted d.after.counts t) =
+    subst (λ ask. Weather d.who ask d.answer (counted d.before.counts (called d.who t.now b)) (counted d.after.counts t)) (ap (λ n. ask_at Getting n) k.is) (row_at Getting from d b t at m) in (
       same_messages from (GetHeld (object.Head from.client) k.lease) d b t row tt,
       held_newest d.who (object.Head from.client) k.lease d.answer d.before.counts d.after.counts (called d.who t.now b) t row,
     )

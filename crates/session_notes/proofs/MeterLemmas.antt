@@ -29,7 +29,7 @@ use Rattle.cloud_trait.specs.Caller.{Caller}
 use Rattle.cloud_trait.specs.Delivery.{unmarked, unmarked_from, IsDelivering}
 use Rattle.cloud_trait.specs.Names.{queue_cmp}
 use Rattle.cloud_trait.specs.State.{CloudState, Counts, mark_at, marked}
-use Rattle.cloud_trait.specs.Weather.{Weather}
+use Rattle.cloud_trait.specs.Weather.{counted, Weather}
 use Rattle.cloud_trait.specs.declared.answer.Answer.{Answer}
 use Rattle.cloud_trait.specs.declared.message.Message.{Message}
 use Rattle.cloud_trait.specs.declared.state.Posted.{Posted}
@@ -220,7 +220,7 @@ deletes_metered who queue id notes s metered place =
         omega (arith, less, before)
 
 -- it meters as before what it noted, whatever it is answered
-pub call_metered : (who : Caller) (ask : Ask) (a : Answer) (c d : Counts) (b t : CloudState) → Weather who ask a c d b t → (notes : List Note) → IsMetered notes b
+pub call_metered : (who : Caller) (ask : Ask) (a : Answer) (c d : Counts) (b t : CloudState) → Weather who ask a (counted c b) (counted d t) → (notes : List Note) → IsMetered notes b
     → IsMetered (with_note notes (note_of_ask ask)) t
 call_metered who ask a c d b t row notes metered = row_by (IsMetered (with_note notes (note_of_ask ask))) who ask a c d b t row same (λ permits. lands ask same)
   where

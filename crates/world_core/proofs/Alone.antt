@@ -7,7 +7,7 @@ use Rattle.client_work.specs.declared.op.Op.TheVariants as op
 use Rattle.client_work.specs.Session.{Acting}
 use Rattle.cloud_facts.proofs.Book.Names.{at_same}
 use Rattle.cloud_facts.specs.Words.{QueueName, Turn, CloudState, Caller, Seen, Claim}
-use Rattle.cloud_trait.specs.Weather.{Leaves}
+use Rattle.cloud_trait.specs.Weather.{counted, Leaves}
 use Rattle.db_base.specs.declared.refusal.Refused.{Refused}
 use Rattle.db_base.specs.declared.wish.Wish.{Wish}
 use Rattle.event_text.specs.declared.event.Event.{Event}
@@ -73,7 +73,7 @@ step_alone n lines who wish before after old new turn x holds p under h undistur
     made : MadeCall who p.under p.to p.session.before.work
     made = made_call who p.under p.to p.session.before.work p.session.after.work turn p.session.does.work
 
-    left : Leaves who made.ask made.answer p.under.counts p.to.counts (record h.state { wish = wish }) p.to.state
+    left : Leaves who made.ask made.answer (counted p.under.counts (record h.state { wish = wish })) p.to.counts p.to.state
     left = made.made.state (record h.state { wish = wish }) told
 
     held : CloudHolds n lines (session_at old.sessions) old.audit old.blind (record x { wish = wish })

@@ -7,7 +7,7 @@ use Rattle.client_work.specs.declared.op.Op.{Op}
 use Rattle.client_work.specs.declared.op.Op.TheVariants as op
 use Rattle.cloud_facts.proofs.Book.Names.{at_same}
 use Rattle.cloud_facts.specs.Words.{QueueName, Entry, Turn, More, Ended, CloudState, Caller, Seen, Book, at}
-use Rattle.cloud_trait.specs.Weather.{Leaves}
+use Rattle.cloud_trait.specs.Weather.{counted, Leaves}
 use Rattle.db_base.specs.Change.{IsChange}
 use Rattle.db_base.specs.declared.refusal.Refused.{Refused}
 use Rattle.db_base.specs.declared.wish.Wish.{Wish}
@@ -234,7 +234,7 @@ step_on who wish before after old new turn on p =
     made : MadeCall who p.under p.to (f who.session).work
     made = made_call who p.under p.to (f who.session).work p.session.after.work turn steps.work
 
-    left : Leaves who made.ask made.answer p.under.counts p.to.counts s p.to.state
+    left : Leaves who made.ask made.answer (counted p.under.counts s) p.to.counts p.to.state
     left = made.made.state s told
 
     goes : SessionGoes on.book on.order s left.after f who.session p.session.after

@@ -19,7 +19,7 @@ use Rattle.cloud_trait.specs.Growth.{BeginsWith, HasGrown}
 use Rattle.cloud_trait.specs.Names.{queue_cmp}
 use Rattle.cloud_trait.specs.State.{Counts}
 use Rattle.cloud_trait.specs.Upto.{posts_of}
-use Rattle.cloud_trait.specs.Weather.{Leaves, Weather}
+use Rattle.cloud_trait.specs.Weather.{counted, Leaves, Weather}
 use Rattle.cloud_trait.specs.declared.answer.Answer.TheVariants as call
 use Rattle.db_base.specs.declared.names.QueueName.TheVariants.{Atomic, TreePu, PagePu}
 use Rattle.db_base.specs.declared.wish.Wish.{Wish}
@@ -50,7 +50,7 @@ pushed_some [] x e = absurd (cc (e))
 pushed_some (y ∷ ys) x e = absurd (cc (e))
 
 -- a send that found memory and did not fail leaves one
-send_lands : (who : Caller) (queue : QueueName) (bytes : List ℕ) (a : Reply) (c d : Counts) (b t : CloudState) → Weather who (Send queue bytes) a c d b t → a ≢ call.Failed → a ≢ call.Memory
+send_lands : (who : Caller) (queue : QueueName) (bytes : List ℕ) (a : Reply) (c d : Counts) (b t : CloudState) → Weather who (Send queue bytes) a (counted c b) (counted d t) → a ≢ call.Failed → a ≢ call.Memory
     → t.messages queue ≢ []
 send_lands who queue bytes (call.Sent id) c d b t row failed memory =
     subst (λ (x : CloudState). x.messages queue ≢ []) (sym row.0.0)
@@ -147,7 +147,7 @@ module _ (who : Caller) (wish : Wish) (before after : Seen) (old new : World) (t
   made : IsReplied who p.under p.to w reply
   made = replied who p.under p.to p.session.before p.session.after turn p.session.does
 
-  left : Leaves who made.ask reply p.under.counts p.to.counts wished p.to.state
+  left : Leaves who made.ask reply (counted p.under.counts wished) p.to.counts p.to.state
   left = made.made.state wished (p.wishes.set h.state (p.look_before.stays h.state h.told))
 
   grown : HasGrown wished left.after
@@ -186,7 +186,7 @@ module _ (who : Caller) (wish : Wish) (before after : Seen) (old new : World) (t
           (h.sent.landed place some before_it)
       on (inr (bytes, is)) =
           send_lands who (PagePu place.tree place.page) bytes reply p.under.counts p.to.counts (called who left.after.now wished) left.after
-          (subst (λ (ask : Ask). Weather who ask reply p.under.counts p.to.counts (called who left.after.now wished) left.after) is left.row) not_failed undisturbed.heard
+          (subst (λ (ask : Ask). Weather who ask reply (counted p.under.counts (called who left.after.now wished)) (counted p.to.counts left.after)) is left.row) not_failed undisturbed.heard
 
   was : IsWriters k notes p.notes.before
   was = subst (IsWriters k notes) (sym (book_before who.session _ old.notes new.notes h.sent.ledger.book p.notes h.sent.ledger.there)) h.sent.ledger.is

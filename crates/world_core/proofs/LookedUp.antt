@@ -19,7 +19,7 @@ use Rattle.client_work.specs.declared.work.Work.TheVariants.{Looking}
 use Rattle.cloud_facts.proofs.Book.Names.{at_same}
 use Rattle.cloud_facts.specs.Words.{ObjName, Entry, Leaf, Answer as Heard, Turn, More, Ended, CloudState, called, Caller, Seen, Get, Deed}
 use Rattle.cloud_trait.specs.State.{Counts, newest_of}
-use Rattle.cloud_trait.specs.Weather.{Weather, Leaves}
+use Rattle.cloud_trait.specs.Weather.{counted, Weather, Leaves}
 use Rattle.cloud_trait.specs.declared.answer.Answer.TheVariants.{Got, Failed, Memory}
 use Rattle.cloud_trait.specs.declared.state.Landing.{Landing}
 use Rattle.db_base.specs.declared.pair.Pair.{Pair}
@@ -51,7 +51,7 @@ pub record HoldsSame (t s : CloudState) : Type 0 where
 pub holds_itself : (t : CloudState) → HoldsSame t t
 holds_itself t = record { versions = refl; messages = refl; trace = refl }
 
-get_stays : (who : Caller) (name : ObjName) (a : Heard) (c d : Counts) (b u : CloudState) → Weather who (Get name) a c d b u → u ≡ b
+get_stays : (who : Caller) (name : ObjName) (a : Heard) (c d : Counts) (b u : CloudState) → Weather who (Get name) a (counted c b) (counted d u) → u ≡ b
 get_stays who name Failed c d b u (inl is) = is
 get_stays who name Failed c d b u (inr lands) = lands.0
 get_stays who name Memory c d b u is = is
@@ -59,7 +59,7 @@ get_stays who name (Got v) c d b u row = row.0
 get_stays who name a c d b u row = absurd row
 
 -- a get leaves it so
-get_holds : (who : Caller) (name : ObjName) (a : Heard) (c d : Counts) (t s : CloudState) (new : Option CloudState) → HoldsSame t s → (l : Leaves who (Get name) a c d s new)
+get_holds : (who : Caller) (name : ObjName) (a : Heard) (c d : Counts) (t s : CloudState) (new : Option CloudState) → HoldsSame t s → (l : Leaves who (Get name) a (counted c s) d new)
     → HoldsSame t l.after
 get_holds who name a c d t s new same l =
     let is : l.after ≡ called who l.after.now s = get_stays who name a c d (called who l.after.now s) l.after l.row in
@@ -211,7 +211,7 @@ module _ (lines : List Line) (who : Caller) (number : who.event ≡ length lines
       each_then : AllByRecursion IsNewest visits_then
       each_then = visits_more IsNewest a.look deed (leaf_by (a.look, (mine old).cache) deed) a.visits newest_leaf a.each
 
-      leaves : Leaves who (Get (object_of a.look.walk)) l.walked.answer p.under.counts p.to.counts s p.to.state
+      leaves : Leaves who (Get (object_of a.look.walk)) l.walked.answer (counted p.under.counts s) p.to.counts p.to.state
       leaves = l.walked.made.state s told
 
       same_then : HoldsSame t leaves.after

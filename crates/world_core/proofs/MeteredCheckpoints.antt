@@ -15,7 +15,7 @@ use Rattle.cloud_trait.proofs.RowLemmas.{row_rest}
 use Rattle.cloud_facts.specs.Words.{QueueName, Answer, Turn, More, Ended, CloudState, called, Caller, Seen, Ask, Next, Goes, Ends, Deed}
 use Rattle.cloud_trait.specs.declared.answer.Answer.TheVariants.{Failed, Memory}
 use Rattle.cloud_trait.specs.declared.turn.CkptAnswer.{CkptAnswer}
-use Rattle.cloud_trait.specs.Weather.{Leaves, Makes, Rose}
+use Rattle.cloud_trait.specs.Weather.{counted, Leaves, Makes, Rose}
 use Rattle.db_base.specs.declared.wish.Wish.TheVariants.{Plain}
 use Rattle.page_cache.specs.Cache.{Cache}
 use Rattle.page_ckpt.specs.Paging.{Paging as Page, paging_ask, PagingLeads}
@@ -155,7 +155,7 @@ module _ {M : Type 0} (ask : M → Ask) (leads : M → Answer → Next M CkptAns
       abbrev deed : Deed
       deed = record { who = who; ask = ask m; answer = h.answer; before = p.under; after = p.to }
 
-      left : Leaves who (ask m) h.answer p.under.counts p.to.counts s p.to.state
+      left : Leaves who (ask m) h.answer (counted p.under.counts s) p.to.counts p.to.state
       left = h.made.state s under
 
       between : IsBetween deed s left.after

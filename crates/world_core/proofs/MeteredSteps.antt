@@ -8,7 +8,7 @@ use Rattle.client_work.specs.declared.work.Work.{Work}
 use Rattle.client_work.specs.Session.{Acting, ask_of_work}
 use Rattle.cloud_facts.proofs.Book.Names.{at_same}
 use Rattle.cloud_facts.specs.Words.{Turn, More, Ended, CloudState, called, Caller, Seen, Ask}
-use Rattle.cloud_trait.specs.Weather.{Leaves}
+use Rattle.cloud_trait.specs.Weather.{counted, Leaves}
 use Rattle.db_base.specs.declared.wish.Wish.{Wish}
 use Rattle.db_base.specs.declared.wish.Wish.TheVariants.{Plain}
 use Rattle.session_facts.proofs.Lines.Outcome.{MadeCall, made_call}
@@ -59,7 +59,7 @@ module _ (who : Caller) (k bound : ℕ) (wish : Wish) (before after : Seen) (old
   made : MadeCall who p.under p.to work
   made = made_call who p.under p.to work p.session.after.work turn p.session.does.work
 
-  left : Leaves who made.ask made.answer p.under.counts p.to.counts wished p.to.state
+  left : Leaves who made.ask made.answer (counted p.under.counts wished) p.to.counts p.to.state
   left = made.made.state wished told_wished
 
   module _ (m : Meters who.session k bound old t) where

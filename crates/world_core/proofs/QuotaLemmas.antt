@@ -7,7 +7,7 @@ use Rattle.cloud_facts.specs.Words.{Turn, CloudState, called, Caller, Seen, Ask,
 use Rattle.cloud_trait.specs.Ask.{ListHeld, RemoveHeld, effect}
 use Rattle.cloud_trait.specs.Bench.{Waits}
 use Rattle.cloud_trait.specs.declared.state.Landing.{Landing}
-use Rattle.cloud_trait.specs.Weather.{Leaves}
+use Rattle.cloud_trait.specs.Weather.{counted, Leaves}
 use Rattle.cloud_trait.proofs.EffectLemmas.{effect_trace}
 use Rattle.cloud_trait.proofs.RowLemmas.{leaves_by}
 use Rattle.db_base.specs.declared.wish.Wish.{Wish}
@@ -70,7 +70,7 @@ spends_step who number under to old new turn quota left taken step x told = (lea
     call : MadeCall who under to step.before.work
     call = made_call who under to step.before.work step.after.work turn step.does.work
 
-    leaves : Leaves who call.ask call.answer under.counts to.counts x to.state
+    leaves : Leaves who call.ask call.answer (counted under.counts x) to.counts to.state
     leaves = call.made.state x told
 
     near : length x.trace ≤ length x.trace + 1

@@ -8,7 +8,7 @@ use Rattle.client_work.specs.declared.work.Work.{Work}
 use Rattle.client_work.specs.declared.work.Work.TheVariants as work
 use Rattle.cloud_facts.proofs.Book.Names.{at_same}
 use Rattle.cloud_facts.specs.Words.{Trouble, Turn, More, Ended, CloudState, Seen, Ask, Goes, Ends, Stops, Deed}
-use Rattle.cloud_trait.specs.Weather.{Leaves}
+use Rattle.cloud_trait.specs.Weather.{counted, Leaves}
 use Rattle.db_base.specs.declared.trouble.Trouble.TheVariants as trouble
 use Rattle.db_base.specs.declared.wish.Wish.TheVariants.{Plain}
 use Rattle.event_text.specs.declared.event.Event.{Event}
@@ -331,7 +331,7 @@ module _ (n : ℕ) where
       made : MadeCall (settler n) p.under p.to (here.sessions 0).work
       made = made_call (settler n) p.under p.to (here.sessions 0).work p.session.after.work (Ended (answer.Trouble q)) steps.work
 
-      left : Leaves (settler n) made.ask made.answer p.under.counts p.to.counts s p.to.state
+      left : Leaves (settler n) made.ask made.answer (counted p.under.counts s) p.to.counts p.to.state
       left = made.made.state s told
 
   went_explains : (before : Seen) (old : World) (after : Seen) (new : World) → SettlerOnWay old before → (went : Went (settler n) before old after new)

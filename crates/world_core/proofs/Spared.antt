@@ -24,7 +24,7 @@ use Rattle.session_facts.specs.Sessions.Spent.{IsSpentInPages, IsSpentInTree}
 use Rattle.session_facts.specs.Sessions.Untroubled.{IsSpent}
 use Rattle.cloud_trait.proofs.RowLemmas.{leaves_grown}
 use Rattle.cloud_trait.specs.Growth.{HasGrown}
-use Rattle.cloud_trait.specs.Weather.{Leaves}
+use Rattle.cloud_trait.specs.Weather.{counted, Leaves}
 use Rattle.db_base.specs.declared.trouble.Counter.{Counter}
 use Rattle.db_base.specs.declared.wish.Wish.{Wish}
 use Rattle.event_text.specs.declared.event.Event.{Event}
@@ -104,7 +104,7 @@ step_some queue who wish before after old new turn p h = record {
     made : MadeCall who p.under p.to p.session.before.work
     made = made_call who p.under p.to p.session.before.work p.session.after.work turn p.session.does.work
 
-    left : Leaves who made.ask made.answer p.under.counts p.to.counts (record h.state { wish = wish }) p.to.state
+    left : Leaves who made.ask made.answer (counted p.under.counts (record h.state { wish = wish })) p.to.counts p.to.state
     left = made.made.state (record h.state { wish = wish }) (p.wishes.set h.state (p.look_before.stays h.state h.told))
 
     grown : HasGrown (record h.state { wish = wish }) left.after

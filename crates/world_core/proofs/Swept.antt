@@ -8,7 +8,7 @@ use Rattle.client_work.specs.declared.work.Work.TheVariants as work
 use Rattle.cloud_facts.proofs.Book.Names.{at_same}
 use Rattle.cloud_facts.proofs.Calls.Calls.{call_of}
 use Rattle.cloud_facts.specs.Words.{IsTree, Trouble, Entry, Answer as Heard, Turn, More, Ended, CloudState, Caller, Seen, Book, at, store_of, IsCall}
-use Rattle.cloud_trait.specs.Weather.{Makes, Leaves}
+use Rattle.cloud_trait.specs.Weather.{counted, Makes, Leaves}
 use Rattle.db_base.specs.declared.trouble.Trouble.TheVariants as trouble
 use Rattle.db_base.specs.declared.wish.Wish.TheVariants.{Plain}
 use Rattle.event_text.specs.declared.event.Event.{Event}
@@ -126,7 +126,7 @@ module _ (begun : CloudState) (tree n : ℕ) (before : Seen) (old : World) (on :
       abbrev heard : Heard
       heard = (call_in (settler n) under to m a.work turn sweeping).reply
 
-      left : Leaves (settler n) (sweep_ask m) heard under.counts to.counts s to.state
+      left : Leaves (settler n) (sweep_ask m) heard (counted under.counts s) to.counts to.state
       left = (call_in (settler n) under to m a.work turn sweeping).made.state s told_under
 
       call : IsCall (settler n) (sweep_ask m) heard s left.after

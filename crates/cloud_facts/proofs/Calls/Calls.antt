@@ -4,7 +4,7 @@ use Rattle.cloud_facts.specs.Words.{ObjName, QueueName, Answer, CloudState, call
 use Rattle.db_base.specs.declared.trouble.Trouble.TheVariants as trouble
 use Rattle.cloud_trait.specs.declared.answer.Answer.TheVariants.{Got, Sent, Received, Listed, Done, Given, Held, Renewed, Late, Failed, Memory}
 use Rattle.cloud_trait.specs.Ask.{Permits, Lands}
-use Rattle.cloud_trait.specs.Weather.{FirstOver, Leaves, Makes}
+use Rattle.cloud_trait.specs.Weather.{counted, FirstOver, Leaves, Makes}
 use Rattle.cloud_trait.proofs.RowLemmas.{lands_or_not}
 
 state_is : (s t : CloudState) → Some s ≡ Some t → s ≡ t
@@ -14,7 +14,7 @@ pub call_of : (who : Caller) (ask : Ask) (answer : Answer) (before after : Seen)
     → IsCall who ask answer s t
 call_of who ask answer before after s t made e f = on (made.state s e)
   where
-    on : Leaves who ask answer before.counts after.counts s after.state → IsCall who ask answer s t
+    on : Leaves who ask answer (counted before.counts s) after.counts after.state → IsCall who ask answer s t
     on l = subst (IsCall who ask answer s) (state_is l.after t (sym l.told ∙ f)) (record { before = before.counts; after = after.counts; later = l.later; row = l.row })
 
 pub landed_or_not : (who : Caller) (ask : Ask) (answer : Answer) (s t : CloudState) → (c : IsCall who ask answer s t) → (t ≡ called who t.now s) ⊎ Lands who ask (called who t.now s) t

@@ -8,7 +8,7 @@ use Rattle.cloud_trait.specs.declared.state.Hold.{Hold}
 use Rattle.cloud_trait.specs.Ask.{ListHeld, RemoveHeld, Lands, Permits, effect}
 use Rattle.cloud_trait.specs.Names.{lock_cmp, object_cmp}
 use Rattle.cloud_trait.specs.State.{Counts, end_after, is_current, moved, released, landed, held_so}
-use Rattle.cloud_trait.specs.Weather.{Leaves}
+use Rattle.cloud_trait.specs.Weather.{counted, Leaves}
 use Rattle.cloud_trait.proofs.EffectLemmas.{effect_rest, effect_versions}
 use Rattle.cloud_trait.proofs.NameLemmas.{lock_cmp-equal, object_cmp-equal}
 use Rattle.cloud_trait.proofs.RowLemmas.{lands_or_not}
@@ -136,7 +136,7 @@ landed_allowed who ask s now hands later owns guarded permits =
     }
 
 -- a call does only what it may, where its leases are the session's own and guard what it puts or removes
-pub call_is_allowed : (who : Caller) (ask : Ask) (a : Answer) (c d : Counts) (s : CloudState) (new : Option CloudState) (l : Leaves who ask a c d s new) (hands : Hands)
+pub call_is_allowed : (who : Caller) (ask : Ask) (a : Answer) (c d : Counts) (s : CloudState) (new : Option CloudState) (l : Leaves who ask a (counted c s) d new) (hands : Hands)
     → Owns hands who.session ask → IsGuarded s l.after.now ask → Allowed hands who.session s l.after
 call_is_allowed who ask a c d s new l hands owns guarded = on (lands_or_not who ask a c d (called who l.after.now s) l.after l.row)
   where

@@ -9,7 +9,7 @@ use Rattle.cloud_trait.specs.Ask.{ListHeld, RemoveHeld, Lands}
 use Rattle.cloud_trait.specs.Claim.{extended}
 use Rattle.cloud_trait.specs.Names.{lock_cmp}
 use Rattle.cloud_trait.specs.State.{Counts, put_at, end_after, lease_given, is_current, moved, released, held_so}
-use Rattle.cloud_trait.specs.Weather.{Weather, Leaves, RenewsBoth}
+use Rattle.cloud_trait.specs.Weather.{counted, Weather, Leaves, RenewsBoth}
 use Rattle.cloud_trait.proofs.EffectLemmas.{effect_rest}
 use Rattle.cloud_trait.proofs.NameLemmas.{lock_cmp-equal, lock_cmp-total}
 use Rattle.cloud_trait.proofs.RowLemmas.{lands_or_not, row_rest, row_locks}
@@ -322,7 +322,7 @@ old_or hands session x new (inl p) = inl p.0
 old_or hands session x new (inr e) = inr e
 
 -- every call keeps what holds of the leases in hand
-pub call_keeps : (who : Caller) (ask : Ask) (a : Answer) (c d : Counts) (m : Claim) (b t : CloudState) (hands after : Hands) → Weather who ask a c d b t
+pub call_keeps : (who : Caller) (ask : Ask) (a : Answer) (c d : Counts) (m : Claim) (b t : CloudState) (hands after : Hands) → Weather who ask a (counted c b) (counted d t)
     → Owns hands who.session ask → RenewedTo who ask m b t → HandsAfter who.session ask a m hands after → LeasesHold b.now b.locks hands → LeasesHold t.now t.locks after
 call_keeps who (Take k ticks) (answer.Given l) c d m b t hands after row owns renewed w h =
     take_landed who k ticks b t hands after row.0 w.others (λ x holds. subst (λ y. Holds hands who.session x ⊎ (x ≡ y)) row.1 (old_or hands who.session x l (w.own x holds))) h
@@ -350,7 +350,7 @@ call_keeps who (Delete queue id) a c d m b t hands after row owns renewed w h =
     still b t hands after who.session (row_rest who (Delete queue id) a c d b t row).now (row_locks who (Delete queue id) a c d b t row tt) w.others (λ x holds. old_only hands who.session _ x (w.own x holds)) h
 
 -- the same over the whole of what a call leaves: the clock may go on
-pub leaves_keep : (who : Caller) (ask : Ask) (a : Answer) (c d : Counts) (m : Claim) (s : CloudState) (new : Option CloudState) (l : Leaves who ask a c d s new) (hands after : Hands)
+pub leaves_keep : (who : Caller) (ask : Ask) (a : Answer) (c d : Counts) (m : Claim) (s : CloudState) (new : Option CloudState) (l : Leaves who ask a (counted c s) d new) (hands after : Hands)
     → Owns hands who.session ask → RenewedTo who ask m (called who l.after.now s) l.after → HandsAfter who.session ask a m hands after
     → LeasesHold s.now s.locks hands → LeasesHold l.after.now l.after.locks after
 leaves_keep who ask a c d m s new l hands after owns renewed w h =

@@ -14,7 +14,7 @@ use Rattle.cloud_facts.specs.Book.Records.{entry_of, entries_of}
 use Rattle.cloud_trait.proofs.RowLemmas.{leaves_grown}
 use Rattle.cloud_trait.specs.Growth.{BeginsWith, HasGrown}
 use Rattle.cloud_trait.specs.Upto.{posts_of}
-use Rattle.cloud_trait.specs.Weather.{Leaves}
+use Rattle.cloud_trait.specs.Weather.{counted, Leaves}
 use Rattle.commit_run.specs.Run.{Run, home_of}
 use Rattle.db_base.specs.declared.names.QueueName.TheVariants.{Atomic}
 use Rattle.db_base.specs.declared.trouble.CommitAnswer.TheVariants.{Committed, NotCommitted, InDoubt, CommittedOpen}
@@ -128,7 +128,7 @@ module _ (lines : List Line) (line : Line) (who : Caller) (wish : Wish) (before 
 
   grown : HasGrown s u
   grown =
-      let l : Leaves who made.ask made.answer p.under.counts p.to.counts s p.to.state = made.made.state s under in
+      let l : Leaves who made.ask made.answer (counted p.under.counts s) p.to.counts p.to.state = made.made.state s under in
       subst (HasGrown s) (same_Some l.after u (sym (p.look_after.stays l.after l.told) ∙ told)) (leaves_grown who made.ask made.answer p.under.counts p.to.counts s p.to.state l)
 
   entries_on : BeginsWith (committed lines s) (committed (lines ++ line ∷ []) u)

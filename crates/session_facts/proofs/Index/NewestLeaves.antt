@@ -33,7 +33,7 @@ use Rattle.cloud_trait.specs.Delivery.{unmarked}
 use Rattle.cloud_trait.specs.declared.answer.Answer.TheVariants.{Got}
 use Rattle.cloud_trait.specs.Machine.{IsMade}
 use Rattle.cloud_trait.specs.State.{newest_of, greatest}
-use Rattle.cloud_trait.specs.Weather.{Makes, Leaves}
+use Rattle.cloud_trait.specs.Weather.{counted, Makes, Leaves}
 use Rattle.db_base.specs.Change.{key_of}
 use Rattle.db_base.specs.declared.names.ObjName.TheVariants as object
 use Rattle.head_codec.specs.declared.lists.Pending.{Pending}
@@ -258,7 +258,7 @@ module _ (n : ℕ) (lines : List Line) (sessions : Sessions) (audit : Audited) (
     kept : KnowsKept st cache (Looking home m)
     kept = subst (KnowsKept st cache) at (h.stand.each who.session).kept
 
-    left : Leaves who (look_ask m) answer before.counts after.counts s after.state
+    left : Leaves who (look_ask m) answer (counted before.counts s) after.counts after.state
     left = made.state s told
 
     leads : WalkLeads st MayStopWalk (walk_next (m.walk, cache) answer)

@@ -13,7 +13,7 @@ use Rattle.cloud_facts.specs.Words.{CommitAnswer, Entry, AtomicRec, Answer as Re
 use Rattle.cloud_facts.specs.Book.Records.{entry_of, entries_of}
 use Rattle.cloud_facts.specs.Homes.Homes.{Home, Part}
 use Rattle.cloud_trait.specs.Growth.{BeginsWith}
-use Rattle.cloud_trait.specs.Weather.{Leaves}
+use Rattle.cloud_trait.specs.Weather.{counted, Leaves}
 use Rattle.cloud_trait.proofs.RowLemmas.{leaves_by}
 use Rattle.commit_run.specs.Draft.{Draft}
 use Rattle.commit_run.specs.Run.{Run, home_of, wrote, walked, next_at as run_next_at, run_next}
@@ -184,7 +184,7 @@ call_commits_on lines who before after x y w new turn told told_after placed ste
     call : MadeCall who before after w
     call = made_call who before after w new turn steps
 
-    l : Leaves who call.ask call.answer before.counts after.counts x after.state
+    l : Leaves who call.ask call.answer (counted before.counts x) after.counts after.state
     l = call.made.state x told
 
     one : (a b : CloudState) → Some a ≡ Some b → a ≡ b

@@ -14,7 +14,7 @@ use Rattle.cloud_facts.specs.Homes.Homes.{Home, Part, Parts, HomeHolds, PartHold
 use Rattle.cloud_facts.specs.Lefts.Left.{WasLogged, Leaves as LeavesLog}
 use Rattle.cloud_trait.proofs.RowLemmas.{leaves_by}
 use Rattle.cloud_trait.specs.State.{Counts}
-use Rattle.cloud_trait.specs.Weather.{Leaves}
+use Rattle.cloud_trait.specs.Weather.{counted, Leaves}
 use Rattle.cloud_trait.specs.declared.answer.Answer.TheVariants.{Late}
 use Rattle.commit_run.specs.Draft.{Draft}
 use Rattle.commit_run.specs.Run.{Run, home_of, wrote, walked, ask_at, next_at as run_next_at}
@@ -191,7 +191,7 @@ module _ (st : Store) (now : ℕ) (parts : Parts) (session : ℕ) (homes : Homes
 -- ---- what such a call leaves
 
 -- a call that lands no head adds nothing to what was committed
-none_lands : (lines : List Line) (who : Caller) (ask : Ask) (a : Reply) (c d : Counts) (x : CloudState) (new : Option CloudState) (l : Leaves who ask a c d x new)
+none_lands : (lines : List Line) (who : Caller) (ask : Ask) (a : Reply) (c d : Counts) (x : CloudState) (new : Option CloudState) (l : Leaves who ask a (counted c x) d new)
     → put_entries lines who ask ≡ [] → All (IsPlaced x.versions) x.trace → committed lines l.after ≡ committed lines x
 none_lands lines who ask a c d x new l none placed =
     leaves_by (λ t. committed lines t ≡ committed lines x) who ask a c d x new l (committed_called lines who l.after.now x)
@@ -199,7 +199,7 @@ none_lands lines who ask a c d x new l none placed =
     ∙ (ap (λ es. committed lines (called who l.after.now x) ++ es) none
     ∙ (append-nil (committed lines (called who l.after.now x)) ∙ committed_called lines who l.after.now x)))
 
-none_added : (lines : List Line) (who : Caller) (ask : Ask) (a : Reply) (c d : Counts) (x : CloudState) (new : Option CloudState) (l : Leaves who ask a c d x new)
+none_added : (lines : List Line) (who : Caller) (ask : Ask) (a : Reply) (c d : Counts) (x : CloudState) (new : Option CloudState) (l : Leaves who ask a (counted c x) d new)
     → (CommitsNothing ask a → ⊥) → All (IsPlaced x.versions) x.trace → committed lines l.after ≡ committed lines x
 none_added lines who (Get name) a c d x new l none placed = none_lands lines who (Get name) a c d x new l refl placed
 none_added lines who (Send queue bytes) a c d x new l none placed = none_lands lines who (Send queue bytes) a c d x new l refl placed
@@ -232,7 +232,7 @@ module _ (n : ℕ) (lines : List Line) (who : Caller) (before after : Seen) (x y
   kept = (sessions who.session).cache
 
   -- the home that a commit leaves
-  left_home : (r : Run) (a : Reply) (left : Held) → HasRefused h.book.log r (ask_at r.hand r.draft.writes) a left → Leaves who (ask_at r.hand r.draft.writes) a before.counts after.counts x after.state
+  left_home : (r : Run) (a : Reply) (left : Held) → HasRefused h.book.log r (ask_at r.hand r.draft.writes) a left → Leaves who (ask_at r.hand r.draft.writes) a (counted before.counts x) after.counts after.state
       → HasNone (committed lines y) left.client left.head.epoch left.attempt
   left_home r a left k l =
       λ e is client epoch txn.

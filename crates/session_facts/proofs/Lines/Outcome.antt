@@ -6,7 +6,7 @@ use Rattle.db_base.specs.declared.wish.Wish.{Wish}
 use Rattle.cloud_facts.specs.Calls.Looks.{audit_of}
 use Rattle.cloud_trait.specs.declared.state.Landing.{Landing}
 use Rattle.cloud_trait.specs.Ask.{effect}
-use Rattle.cloud_trait.specs.Weather.{Makes, Leaves}
+use Rattle.cloud_trait.specs.Weather.{counted, Makes, Leaves}
 use Rattle.cloud_trait.proofs.RowLemmas.{row_by, leaves_upto}
 use Rattle.history.specs.Audited.{Audited}
 use Rattle.session_facts.specs.Rows.Asks.{MayAsk}
@@ -176,7 +176,7 @@ call_leaves n lines who before after x sessions new turn a b blind blind_after e
     call : MadeCall who before after w
     call = made_call who before after w new.work turn p.work
 
-    l : Leaves who call.ask call.answer before.counts after.counts x after.state
+    l : Leaves who call.ask call.answer (counted before.counts x) after.counts after.state
     l = call.made.state x told
 
     goes : Goes h.book h.order x l.after sessions who.session new

@@ -7,7 +7,7 @@ use Rattle.cloud_trait.specs.declared.state.Landing.{Landing}
 use Rattle.cloud_trait.specs.declared.state.Site.TheVariants.{Object, Queue}
 use Rattle.cloud_facts.specs.Words.{Turn, CloudState, called, Caller, Seen, Ask, Get, GetHeld, PutHeld, Send, Receive, Delete, Take, Renew, Release}
 use Rattle.cloud_trait.specs.Ask.{ListHeld, RemoveHeld, effect}
-use Rattle.cloud_trait.specs.Weather.{Leaves}
+use Rattle.cloud_trait.specs.Weather.{counted, Leaves}
 use Rattle.cloud_trait.proofs.EffectLemmas.{effect_versions, effect_trace}
 use Rattle.cloud_trait.proofs.RowLemmas.{row_by}
 use Rattle.client_work.specs.declared.answer.Answer.{Answer}
@@ -160,7 +160,7 @@ call_adds n lines who before after start x w new turn le told may p h = record {
     call : MadeCall who before after w
     call = made_call who before after w new turn p
 
-    l : Leaves who call.ask call.answer before.counts after.counts x after.state
+    l : Leaves who call.ask call.answer (counted before.counts x) after.counts after.state
     l = call.made.state x told
 
     b0 : CloudState

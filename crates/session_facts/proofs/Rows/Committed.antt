@@ -15,7 +15,7 @@ use Rattle.cloud_facts.specs.Calls.Looks.{has_landed}
 use Rattle.cloud_trait.specs.Names.{object_cmp}
 use Rattle.cloud_trait.specs.State.{Counts, landed, newest_of}
 use Rattle.cloud_trait.specs.Ask.{ListHeld, RemoveHeld, Permits, effect}
-use Rattle.cloud_trait.specs.Weather.{Leaves}
+use Rattle.cloud_trait.specs.Weather.{counted, Leaves}
 use Rattle.cloud_trait.proofs.NameLemmas.{object_cmp-total}
 use Rattle.cloud_trait.proofs.RowLemmas.{row_by}
 use Rattle.cloud_trait.proofs.StateLemmas.{landed_newest, put_at_same, slice_get-push}
@@ -205,7 +205,7 @@ is_new p q y z e f = ap (λ b. cond (not b && q) y z) e ∙ ap (λ b. cond b y z
 
 -- after a call the audit has as committed what the lines committed
 taken : (lines : List Line) (who : Caller) (w : Work) (ask : Ask) (answer : Answer) (c d : Counts) (s : CloudState) (u : Option CloudState) (a : Audited)
-    → (l : Leaves who ask answer c d s u) → All (IsPlaced s.versions) s.trace → a.committed ≡ committed lines s → Decodes l.after → CommitsAs lines who w ask
+    → (l : Leaves who ask answer (counted c s) d u) → All (IsPlaced s.versions) s.trace → a.committed ≡ committed lines s → Decodes l.after → CommitsAs lines who w ask
     → (cond (has_landed (newest s) (newest l.after) (Some ask)) (noted_at w ask a) a).committed ≡ committed lines l.after
 taken lines who w ask answer c d s u a l placed so decodes (none _ nothing) =
     let b : CloudState = called who l.after.now s in
@@ -253,7 +253,7 @@ taken lines who w ask answer c d s u a l placed so decodes (some client bytes on
         ∙ sym (committed_effect lines who (PutHeld (object.Head client) bytes one two) b placed)
 
 pub audited_commits : (lines : List Line) (who : Caller) (w : Work) (ask : Ask) (answer : Answer) (c d : Counts) (s : CloudState) (u : Option CloudState) (a : Audited)
-    → ask_of_work w ≡ Some ask → (l : Leaves who ask answer c d s u) → All (IsPlaced s.versions) s.trace → a.committed ≡ committed lines s → Decodes l.after
+    → ask_of_work w ≡ Some ask → (l : Leaves who ask answer (counted c s) d u) → All (IsPlaced s.versions) s.trace → a.committed ≡ committed lines s → Decodes l.after
     → CommitsAs lines who w ask → (audited (newest s) (newest l.after) w a).committed ≡ committed lines l.after
 audited_commits lines who w ask answer c d s u a hand l placed so decodes commits =
     ap (λ o. (cond (has_landed (newest s) (newest l.after) o) (noted_in_hand w o a) a).committed) hand

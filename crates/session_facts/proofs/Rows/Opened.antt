@@ -12,7 +12,7 @@ use Rattle.cloud_trait.specs.declared.state.Landing.{Landing}
 use Rattle.cloud_trait.specs.declared.state.Site.TheVariants.{Object, Queue}
 use Rattle.cloud_trait.specs.Ask.{ListHeld, RemoveHeld, effect}
 use Rattle.cloud_trait.specs.State.{landed, removed, sent}
-use Rattle.cloud_trait.specs.Weather.{Leaves}
+use Rattle.cloud_trait.specs.Weather.{counted, Leaves}
 use Rattle.cloud_trait.proofs.EffectLemmas.{effect_versions, effect_trace}
 use Rattle.cloud_trait.proofs.RowLemmas.{row_by}
 use Rattle.cloud_facts.proofs.Book.Names.{at_same, at_other}
@@ -642,7 +642,7 @@ module _ (Was : ℕ → Type 0) (who : Caller) (before after : Seen) (start : Cl
   abbrev x : CloudState
   x = h.rows.state
 
-  abbrev l : Leaves who call.ask call.answer before.counts after.counts x after.state
+  abbrev l : Leaves who call.ask call.answer (counted before.counts x) after.counts after.state
   l = call.made.state x h.rows.told
 
   abbrev b0 : CloudState

@@ -15,7 +15,7 @@ use Rattle.cloud_trait.proofs.EffectLemmas.{grown_itself}
 use Rattle.cloud_trait.proofs.RowLemmas.{leaves_grown}
 use Rattle.cloud_trait.specs.Growth.{HasGrown}
 use Rattle.cloud_trait.specs.Machine.{Follows as ComesBehind}
-use Rattle.cloud_trait.specs.Weather.{Makes, Leaves}
+use Rattle.cloud_trait.specs.Weather.{counted, Makes, Leaves}
 use Rattle.cloud_trait.specs.declared.turn.CkptAnswer.{CkptAnswer}
 use Rattle.db_base.specs.declared.trouble.CommitAnswer.TheVariants.{Committed, NotCommitted, InDoubt, CommittedOpen}
 use Rattle.db_base.specs.declared.trouble.Trouble.TheVariants as trouble
@@ -204,7 +204,7 @@ module _ (who : Caller) (before after : Seen) (s t : CloudState) (book : Book) (
       c : MadeCall who before after (sessions who.session).work
       c = made_call who before after (sessions who.session).work new.work turn steps.work
 
-      l : Leaves who c.ask c.answer before.counts after.counts s after.state
+      l : Leaves who c.ask c.answer (counted before.counts s) after.counts after.state
       l = c.made.state s told
 
       same : (x y : CloudState) → Some x ≡ Some y → x ≡ y

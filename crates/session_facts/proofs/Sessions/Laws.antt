@@ -14,7 +14,7 @@ use Rattle.cloud_facts.specs.Calls.Others.{IsOfPart, NoneJoins}
 use Rattle.cloud_trait.specs.declared.state.Hold.{Hold}
 use Rattle.cloud_trait.specs.Ask.{ListHeld, RemoveHeld}
 use Rattle.cloud_trait.specs.State.{IsEmptyCloud}
-use Rattle.cloud_trait.specs.Weather.{Leaves}
+use Rattle.cloud_trait.specs.Weather.{counted, Leaves}
 use Rattle.session_facts.specs.Machines.Commits.Knows.{MayCommit}
 use Rattle.session_facts.proofs.Machines.Commits.Noted.{may_none}
 use Rattle.db_base.specs.declared.names.Lock.TheVariants as lock
@@ -57,7 +57,7 @@ owned hands session (Renew l ticks) o = o
 owned hands session (Release l) o = o
 
 -- what a call leaves of a state, of a call between two states
-abbrev leaves_by : (who : Caller) (ask : Ask) (reply : Reply) (s t : CloudState) → (c : IsCall who ask reply s t) → Leaves who ask reply c.before c.after s (Some t)
+abbrev leaves_by : (who : Caller) (ask : Ask) (reply : Reply) (s t : CloudState) → (c : IsCall who ask reply s t) → Leaves who ask reply (counted c.before s) c.after (Some t)
 leaves_by who ask reply s t c = record { after = t; told = refl; later = c.later; row = c.row }
 
 -- ---- one session changes

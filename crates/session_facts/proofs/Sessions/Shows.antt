@@ -6,7 +6,7 @@ use Rattle.cloud_trait.specs.declared.answer.Answer.TheVariants.{Got, Sent, Rece
 use Rattle.cloud_trait.specs.Claim.{IsOver}
 use Rattle.cloud_trait.specs.State.{Counts}
 use Rattle.cloud_trait.specs.Views.{renewed_of}
-use Rattle.cloud_trait.specs.Weather.{FirstOver, Leaves, Makes, Rose, Weather}
+use Rattle.cloud_trait.specs.Weather.{counted, FirstOver, Leaves, Makes, Rose, Weather}
 use Rattle.db_base.specs.declared.trouble.Counter.{Counter}
 use Rattle.db_base.specs.declared.trouble.Trouble.TheVariants as trouble
 use Rattle.session_facts.specs.Sessions.Explains.{IsShown}
@@ -22,7 +22,7 @@ first_ends name bytes one (Some two) now end (inl over) lasts = over_ends one no
 first_ends name bytes one (Some two) now end (inr over) lasts = over_ends two now over.1.0 lasts.1
 
 -- a held get answers the newest version, and leaves the versions as they are
-pub held_newest : (who : Caller) (name : ObjName) (l : Claim) (a : Answer) (c d : Counts) (b t : CloudState) → Weather who (GetHeld name l) a c d b t → (v : Option (List ℕ)) → got_of a ≡ Ok v
+pub held_newest : (who : Caller) (name : ObjName) (l : Claim) (a : Answer) (c d : Counts) (b t : CloudState) → Weather who (GetHeld name l) a (counted c b) (counted d t) → (v : Option (List ℕ)) → got_of a ≡ Ok v
     → newest t name ≡ v
 held_newest who name l (Got w) c d b t row v e =
     let same : w ≡ v = cc in
@@ -30,7 +30,7 @@ held_newest who name l (Got w) c d b t row v e =
 held_newest who name l a c d b t row v e = absurd (cc)
 
 -- it was so before too
-pub held_before : (who : Caller) (name : ObjName) (l : Claim) (a : Answer) (c d : Counts) (b t : CloudState) → Weather who (GetHeld name l) a c d b t → (v : Option (List ℕ)) → got_of a ≡ Ok v
+pub held_before : (who : Caller) (name : ObjName) (l : Claim) (a : Answer) (c d : Counts) (b t : CloudState) → Weather who (GetHeld name l) a (counted c b) (counted d t) → (v : Option (List ℕ)) → got_of a ≡ Ok v
     → newest b name ≡ v
 held_before who name l (Got w) c d b t row v e = let same : w ≡ v = cc in sym row.2 ∙ same
 held_before who name l a c d b t row v e = absurd (cc)
@@ -42,13 +42,13 @@ module _ (who : Caller) (before after : Seen) (s t : CloudState) (told : before.
   abbrev Call : Ask → Answer → Type 0
   Call ask a = Makes who ask a before after
 
-  pub row_of : (ask : Ask) (a : Answer) → Call ask a → Weather who ask a before.counts after.counts (called who t.now s) t
+  pub row_of : (ask : Ask) (a : Answer) → Call ask a → Weather who ask a (counted before.counts (called who t.now s)) (counted after.counts t)
   row_of ask a made = on (made.state s told)
     where
-      on : Leaves who ask a before.counts after.counts s after.state → Weather who ask a before.counts after.counts (called who t.now s) t
+      on : Leaves who ask a (counted before.counts s) after.counts after.state → Weather who ask a (counted before.counts (called who t.now s)) (counted after.counts t)
       on l =
           let same : l.after ≡ t = cc (sym l.told ∙ told_after) in
-          subst (λ (u : CloudState). Weather who ask a before.counts after.counts (called who u.now s) u) same l.row
+          subst (λ (u : CloudState). Weather who ask a (counted before.counts (called who u.now s)) (counted after.counts u)) same l.row
 
   -- the trouble of an answer that the view takes for it
   by_trouble : (ask : Ask) (a b : Trouble) → a ≡ b → Shown ask a → Shown ask b

@@ -14,7 +14,7 @@ use Rattle.cloud_trait.specs.Ask.{ListHeld, RemoveHeld, MovesNoLock}
 use Rattle.cloud_trait.specs.Claim.{extended}
 use Rattle.cloud_trait.specs.Names.{lock_cmp}
 use Rattle.cloud_trait.specs.State.{Counts, put_at, end_after, lease_given, taken, is_current, moved, released, held_so}
-use Rattle.cloud_trait.specs.Weather.{Weather}
+use Rattle.cloud_trait.specs.Weather.{counted, Weather}
 use Rattle.cloud_trait.proofs.NameLemmas.{lock_cmp-equal, lock_cmp-total}
 use Rattle.cloud_trait.proofs.RowLemmas.{row_locks}
 use Rattle.cloud_trait.proofs.StateLemmas.{put_at_by, put_at_same}
@@ -207,12 +207,12 @@ module _ (who : Caller) (c d : Counts) (s t : CloudState) (later : s.now ≤ t.n
   by_state : (held_now : List Claim) (u : CloudState) → t ≡ u → HoldsAlone held_now u → HoldsAlone held_now t
   by_state held_now u e holds = subst (HoldsAlone held_now) (sym e) holds
 
-  quiet : (ask : Ask) (a : Answer) → Weather who ask a c d (called who t.now s) t → MovesNoLock ask → HoldsAlone (outstanding_after ask a held) t
+  quiet : (ask : Ask) (a : Answer) → Weather who ask a (counted c (called who t.now s)) (counted d t) → MovesNoLock ask → HoldsAlone (outstanding_after ask a held) t
   quiet ask a row still =
       subst (λ (cs : List Claim). HoldsAlone cs t) (sym (quiet_after ask a held still))
       (same_alone held s t (row_locks who ask a c d (called who t.now s) t row still) later alone)
 
-  took : (lock : Lock) (ticks : ℕ) (a : Answer) → Weather who (Take lock ticks) a c d (called who t.now s) t → a ≢ Failed → HoldsAlone (outstanding_after (Take lock ticks) a held) t
+  took : (lock : Lock) (ticks : ℕ) (a : Answer) → Weather who (Take lock ticks) a (counted c (called who t.now s)) (counted d t) → a ≢ Failed → HoldsAlone (outstanding_after (Take lock ticks) a held) t
   took lock ticks (Given l) row other =
       subst (λ (x : Claim). HoldsAlone (x ∷ held) t) (sym row.1) (by_state (lease_given lock ticks (called who t.now s) ∷ held) (taken lock ticks (called who t.now s)) row.0.0
       (taken_alone held lock ticks (called who t.now s) alone_b))
@@ -228,7 +228,7 @@ module _ (who : Caller) (c d : Counts) (s t : CloudState) (later : s.now ≤ t.n
   took lock ticks (Late e n) row other = absurd row
 
 gave : (who : Caller) (c d : Counts) (s t : CloudState) (later : s.now ≤ t.now) (held : List Claim) (alone : HoldsAlone held s) (l : Claim) (a : Answer)
-    → Weather who (Release l) a c d (called who t.now s) t → UsesOwn (Release l) held → a ≢ Failed → a ≢ Memory → HoldsAlone (outstanding_after (Release l) a held) t
+    → Weather who (Release l) a (counted c (called who t.now s)) (counted d t) → UsesOwn (Release l) held → a ≢ Failed → a ≢ Memory → HoldsAlone (outstanding_after (Release l) a held) t
 gave who c d s t later [] alone l a row never failed memory = absurd never
 gave who c d s t later (x ∷ xs) alone l Done row same failed memory =
     subst (HoldsAlone xs) (sym row.0)
@@ -245,7 +245,7 @@ gave who c d s t later (x ∷ xs) alone l (Held until) row same failed memory = 
 gave who c d s t later (x ∷ xs) alone l (Renewed e) row same failed memory = absurd row
 gave who c d s t later (x ∷ xs) alone l (Late e n) row same failed memory = absurd row
 
-pub call_alone : (who : Caller) (ask : Ask) (a : Answer) (c d : Counts) (s t : CloudState) → s.now ≤ t.now → Weather who ask a c d (called who t.now s) t → (held : List Claim)
+pub call_alone : (who : Caller) (ask : Ask) (a : Answer) (c d : Counts) (s t : CloudState) → s.now ≤ t.now → Weather who ask a (counted c (called who t.now s)) (counted d t) → (held : List Claim)
     → HoldsAlone held s → UsesOwn ask held → a ≢ Failed → a ≢ Memory → HoldsAlone (outstanding_after ask a held) t
 call_alone who (Take lock ticks) a c d s t later row held alone uses failed memory = took who c d s t later held alone lock ticks a row failed
 call_alone who (Release l) a c d s t later row held alone uses failed memory = gave who c d s t later held alone l a row uses failed memory

@@ -10,7 +10,7 @@ use Rattle.client_work.specs.declared.work.Work.TheVariants as work
 use Rattle.cloud_facts.specs.Words.{Entry, Answer as Reply, Turn, More, Ended, CloudState, called, Caller, Seen, Goes, Ends, Deed, Book, at}
 use Rattle.cloud_trait.proofs.RowLemmas.{row_rest}
 use Rattle.cloud_trait.specs.State.{Counts}
-use Rattle.cloud_trait.specs.Weather.{Makes, Leaves, Rose}
+use Rattle.cloud_trait.specs.Weather.{counted, Makes, Leaves, Rose}
 use Rattle.cloud_trait.specs.declared.answer.Answer.TheVariants.{Memory}
 use Rattle.db_base.specs.declared.wish.Wish.TheVariants.{Plain}
 use Rattle.page_cache.specs.Cache.{Cache}
@@ -143,7 +143,7 @@ module _ (B : Settling → Moment → Type 0) (E : Settling → Settled → Mome
     step : IsStep (settler n) before after m reply new.work turn
     step = stepped (settler n) before after new.buffer old.work old.cache p.shown.0 new.work new.shown turn p.work p.shown.1 m way.works
 
-    left : Leaves (settler n) (settle_ask m) reply before.counts after.counts from.state after.state
+    left : Leaves (settler n) (settle_ask m) reply (counted before.counts from.state) after.counts after.state
     left = step.0.state from.state told
 
     goes : SessionGoes from.book from.order from.state left.after from.sessions 0 new

@@ -12,7 +12,7 @@ use Rattle.cloud_trait.specs.declared.answer.Answer.TheVariants.{Got, Received}
 use Rattle.cloud_trait.specs.declared.message.Message.{Message}
 use Rattle.cloud_trait.specs.Delivery.{IsDelivering}
 use Rattle.cloud_trait.specs.State.{Counts}
-use Rattle.cloud_trait.specs.Weather.{Makes, Rose, Weather}
+use Rattle.cloud_trait.specs.Weather.{counted, Makes, Rose, Weather}
 use Rattle.db_base.specs.declared.names.Lock.TheVariants as lock
 use Rattle.db_base.specs.declared.names.ObjName.TheVariants as object
 use Rattle.db_base.specs.declared.names.QueueName.TheVariants as queue
@@ -110,7 +110,7 @@ module _ (st : Store) (client : ℕ) (w : Wanted) where
       both (x ∷ xs) wanted brought = ((counted x wanted.0, brought.0), both xs wanted.1 brought.1)
 
 -- what a receive answered it delivered, or the count of what was withheld rose
-received_row : (who : Caller) (q : QueueName) (a : Answer) (c d : Counts) (b t : CloudState) → Weather who (Receive q 256) a c d b t → (ms : List Message) → received_of a ≡ Ok ms
+received_row : (who : Caller) (q : QueueName) (a : Answer) (c d : Counts) (b t : CloudState) → Weather who (Receive q 256) a (counted c b) (counted d t) → (ms : List Message) → received_of a ≡ Ok ms
     → IsDelivering (b.messages q) 256 ms ⊎ Rose c.withheld d.withheld
 received_row who q (Received ns) c d b t row ms e = let same : ns ≡ ms = cc in subst (λ (l : List Message). IsDelivering (b.messages q) 256 l ⊎ Rose c.withheld d.withheld) same row.2
 received_row who q a c d b t row ms e = absurd (cc)

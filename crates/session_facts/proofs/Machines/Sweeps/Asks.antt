@@ -7,7 +7,7 @@ use Rattle.cloud_trait.specs.Ask.{ListHeld, RemoveHeld}
 use Rattle.cloud_trait.specs.Calm.{NamesLasting}
 use Rattle.cloud_trait.specs.Claim.{IsOver}
 use Rattle.cloud_trait.specs.State.{Counts}
-use Rattle.cloud_trait.specs.Weather.{Weather}
+use Rattle.cloud_trait.specs.Weather.{counted, Weather}
 use Rattle.db_base.specs.declared.names.ObjName.TheVariants as object
 use Rattle.orphan_sweep.proofs.Outcomes.{Onward, from_root, from_page, Clears, listed, removed, Fails, no_root, no_page, no_list, not_removed, bad_root, bad_page, round, Comes, takes, refused, stops, reads_on, has_read, removes, rests, ends, stopped, nothing, came_by}
 use Rattle.orphan_sweep.specs.declared.spot.Spot.{Spot}
@@ -73,7 +73,7 @@ lasts_not : (now : ℕ) (l : Claim) → Lasts now l → IsOver now l → ⊥
 lasts_not now l lasts over = omega (arith, lasts, over)
 
 -- a lease that it names is over
-pub late_shown : (who : Caller) (tree : ℕ) (ask : Ask) (end now : ℕ) (c d : Counts) (s t : CloudState) → IsAskOf tree ask → Weather who ask (Late end now) c d (called who t.now s) t
+pub late_shown : (who : Caller) (tree : ℕ) (ask : Ask) (end now : ℕ) (c d : Counts) (s t : CloudState) → IsAskOf tree ask → Weather who ask (Late end now) (counted c (called who t.now s)) (counted d t)
     → NamesLasting ask t.now → ⊥
 late_shown who tree (GetHeld name l) end now c d s t is row lasts = lasts_not t.now l lasts row.1
 late_shown who tree (ListHeld of l) end now c d s t is row lasts = lasts_not t.now l lasts row.1

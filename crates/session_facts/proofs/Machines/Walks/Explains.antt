@@ -10,7 +10,7 @@ use Rattle.cloud_facts.proofs.Decoding.Newest.{no_version}
 use Rattle.cloud_facts.proofs.Chains.GoneLemmas.{links_kept}
 use Rattle.cloud_facts.proofs.Decoding.Values.{newest_decodes}
 use Rattle.cloud_trait.specs.declared.answer.Answer.TheVariants.{Got}
-use Rattle.cloud_trait.specs.Weather.{Rose, Weather, Makes}
+use Rattle.cloud_trait.specs.Weather.{counted, Rose, Weather, Makes}
 use Rattle.db_base.specs.declared.names.ObjName.TheVariants as object
 use Rattle.db_base.specs.declared.trouble.Counter.{Counter}
 use Rattle.page_cache.specs.Cache.{Cache, served_at}
@@ -129,7 +129,7 @@ module _ (book : Book) (order : List Entry) (s : CloudState) (stands : StandsUnd
     abbrev pub Shown : Trouble → Type 0
     Shown trouble = IsShown (walk_ask w) held Spent (before.counts, s) (after.counts, t) trouble
 
-    by_row : (got : Option (List ℕ)) (trouble : Trouble) → Weather who (walk_ask w) (Got got) before.counts after.counts (called who t.now s) t
+    by_row : (got : Option (List ℕ)) (trouble : Trouble) → Weather who (walk_ask w) (Got got) (counted before.counts (called who t.now s)) (counted after.counts t)
         → IsOld c (object_of w) (is_leaf w) got trouble → Rose before.counts.stale after.counts.stale
     by_row got trouble (same, version, inl new) old = absurd (fresh w c k.cache got trouble k.walk new old)
     by_row got trouble (same, version, inr rose) old = rose
@@ -137,7 +137,7 @@ module _ (book : Book) (order : List Entry) (s : CloudState) (stands : StandsUnd
     stale_rose : (got : Option (List ℕ)) (trouble : Trouble) → a ≡ Got got → IsOld c (object_of w) (is_leaf w) got trouble → Rose before.counts.stale after.counts.stale
     stale_rose got trouble e old =
         by_row got trouble
-        (subst (λ (x : Answer). Weather who (walk_ask w) x before.counts after.counts (called who t.now s) t) e
+        (subst (λ (x : Answer). Weather who (walk_ask w) x (counted before.counts (called who t.now s)) (counted after.counts t)) e
         (row_of who before after s t told told_after held Spent (walk_ask w) a made)) old
 
     -- what fails, and what is refused

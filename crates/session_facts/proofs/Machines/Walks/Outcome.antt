@@ -4,7 +4,7 @@ use Rattle.cloud_facts.specs.Chains.Chain.{ChainHolds}
 use Rattle.cloud_facts.proofs.Meanings.Steps.{at_stays, passed_stays}
 use Rattle.cloud_facts.specs.Words.{IsTree, Trouble, ObjName, Entry, Answer, CloudState, called, Caller, Get, Goes, Stops, got_of, Book, Store, store_of, IsCall, StandsUnder}
 use Rattle.cloud_trait.specs.State.{Counts, version_at}
-use Rattle.cloud_trait.specs.Weather.{Weather}
+use Rattle.cloud_trait.specs.Weather.{counted, Weather}
 use Rattle.cloud_trait.specs.declared.answer.Answer.TheVariants.{Got, Sent, Received, Listed, Done, Given, Held, Renewed, Late, Failed, Memory}
 use Rattle.db_base.specs.declared.names.ObjName.TheVariants as object
 use Rattle.cloud_facts.proofs.Decoding.Values.{version_decodes, read_node, read_root}
@@ -36,7 +36,7 @@ module _ (book : Book) (order : List Entry) (s : CloudState) (stands : StandsUnd
       let node = version_decodes s (object.Page tree page) k bytes stands.decodes (sym e) in
       (node.0, node.1, read_node s tree page k bytes node.0 (sym e) node.1)
 
-  answered : (who : Caller) (name : ObjName) (a : Answer) (t : CloudState) (before after : Counts) → Weather who (Get name) a before after (called who t.now s) t
+  answered : (who : Caller) (name : ObjName) (a : Answer) (t : CloudState) (before after : Counts) → Weather who (Get name) a (counted before (called who t.now s)) (counted after t)
       → MayAnswer (store_of book order s) name (got_of a)
   answered who name (Got v) t before after row = served name row.1.0 v row.1.1
   answered who name (Sent id) t before after row = absurd row

@@ -12,7 +12,7 @@ use Rattle.cloud_facts.proofs.Calls.Calls.{call_of, permitted}
 use Rattle.cloud_facts.proofs.Calls.Outcomes.{quiet, gives_up}
 use Rattle.cloud_trait.specs.declared.answer.Answer.TheVariants.{Renewed, Late, Failed, Memory}
 use Rattle.cloud_trait.specs.Claim.{extended}
-use Rattle.cloud_trait.specs.Weather.{RenewsBoth, RenewsLease}
+use Rattle.cloud_trait.specs.Weather.{leased, counted, RenewsBoth, RenewsLease}
 use Rattle.db_base.specs.declared.trouble.Trouble.TheVariants as trouble
 use Rattle.history.specs.Audited.{Audited}
 use Rattle.cloud_facts.specs.Homes.Homes.{Part, Away, AtHome, Parts, HomesHold}
@@ -83,7 +83,7 @@ module _ (who : Caller) (before after : Seen) (book : Book) (order : List Entry)
 
 -- what it leaves of the lease, between two states
 pub renews_both : (who : Caller) (l m : Claim) (reply : Reply) (before after : Seen) (s t : CloudState) → IsCall who (Renew l 600) reply s t → before.state ≡ Some s → after.state ≡ Some t
-    → RenewsLease who 600 l m reply before after → RenewsBoth who 600 l m (called who t.now s) t
+    → RenewsLease who 600 reply (leased l before) (leased m after) → RenewsBoth who 600 l m (called who t.now s) t
 renews_both who l m (Renewed end) before after s t call e f is = inr (call.row.0, is ∙ ap (extended l) call.row.1)
 renews_both who l m Failed before after s t call e f is = is.1 s t e f
 renews_both who l m (Late end now) before after s t call e f is = inl (call.row.0, is)

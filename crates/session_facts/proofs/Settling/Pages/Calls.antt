@@ -9,7 +9,7 @@ use Rattle.cloud_trait.proofs.RowLemmas.{row_messages, row_versions}
 use Rattle.cloud_trait.specs.Ask.{TouchesNoMessage, PutsNothing}
 use Rattle.cloud_trait.specs.Delivery.{WasSent, IsDelivering}
 use Rattle.cloud_trait.specs.State.{newest_of}
-use Rattle.cloud_trait.specs.Weather.{Leaves, Rose, Weather}
+use Rattle.cloud_trait.specs.Weather.{counted, Leaves, Rose, Weather}
 use Rattle.cloud_trait.specs.declared.answer.Answer.TheVariants.{Got, Received, Done, Given}
 use Rattle.cloud_trait.specs.declared.message.Message.{Message}
 use Rattle.page_ckpt.specs.Meaning.{Scene, Opening, Visit, Tried, scene_queue, opening_calls, put_over, right_put, home_put, visit_over, visits_over, deletes_over, tried_before, one_less, failed_count, main_calls, page_name, take_page}
@@ -140,14 +140,14 @@ received_by : (d : Deed) (s t : CloudState) (q : QueueName) (most : ℕ) (ms : L
     → AllByRecursion (WasSent (s.messages q)) ms × (d.after.counts.withheld ≡ d.before.counts.withheld → IsDelivering (s.messages q) most ms)
 received_by d s t q most ms between e = on (between.made.state s between.told)
   where
-    on : Leaves d.who d.ask d.answer d.before.counts d.after.counts s d.after.state
+    on : Leaves d.who d.ask d.answer (counted d.before.counts s) d.after.counts d.after.state
         → AllByRecursion (WasSent (s.messages q)) ms × (d.after.counts.withheld ≡ d.before.counts.withheld → IsDelivering (s.messages q) most ms)
     on l = (recursion_from_All (WasSent (s.messages q)) ms row.1, λ same. by same row.2)
       where
-        row : Weather d.who (Receive q most) (Received ms) d.before.counts d.after.counts (called d.who l.after.now s) l.after
+        row : Weather d.who (Receive q most) (Received ms) (counted d.before.counts (called d.who l.after.now s)) (counted d.after.counts l.after)
         row =
-            subst (λ (x : Answer). Weather d.who (Receive q most) x d.before.counts d.after.counts (called d.who l.after.now s) l.after) (answer_is e)
-            (subst (λ (x : Ask). Weather d.who x d.answer d.before.counts d.after.counts (called d.who l.after.now s) l.after) (ask_is e) l.row)
+            subst (λ (x : Answer). Weather d.who (Receive q most) x (counted d.before.counts (called d.who l.after.now s)) (counted d.after.counts l.after)) (answer_is e)
+            (subst (λ (x : Ask). Weather d.who x d.answer (counted d.before.counts (called d.who l.after.now s)) (counted d.after.counts l.after)) (ask_is e) l.row)
 
         by : d.after.counts.withheld ≡ d.before.counts.withheld → IsDelivering (s.messages q) most ms ⊎ Rose d.before.counts.withheld d.after.counts.withheld
             → IsDelivering (s.messages q) most ms

@@ -14,7 +14,7 @@ use Rattle.cloud_trait.specs.Ask.{PutsNothing}
 use Rattle.cloud_trait.specs.Delivery.{unmarked}
 use Rattle.cloud_trait.specs.Machine.{IsMade}
 use Rattle.cloud_trait.specs.State.{newest_of}
-use Rattle.cloud_trait.specs.Weather.{Weather}
+use Rattle.cloud_trait.specs.Weather.{counted, Weather}
 use Rattle.cloud_trait.proofs.RowLemmas.{row_versions}
 use Rattle.db_base.specs.declared.names.ObjName.TheVariants as object
 use Rattle.db_base.specs.declared.names.QueueName.TheVariants as queue
@@ -161,7 +161,7 @@ module _ (client : ℕ) (d : Deed) (r : Recovery) (b t : CloudState) (asks : d.a
   name = object.Head client
 
   abbrev Row : Ask → Answer → Type 0
-  Row ask a = Weather d.who ask a d.before.counts d.after.counts (called d.who t.now b) t
+  Row ask a = Weather d.who ask a (counted d.before.counts (called d.who t.now b)) (counted d.after.counts t)
 
   row_at : (ask : Ask) (a : Answer) → recovery_ask r ≡ ask → d.answer ≡ a → Row ask a
   row_at ask a e f = subst (Row ask) f (subst (λ x. Row x d.answer) (asks ∙ e) (deed_row d b t made before after))

@@ -8,7 +8,7 @@ use Rattle.cloud_trait.specs.Ask.{ListHeld, RemoveHeld}
 use Rattle.cloud_trait.specs.Delivery.{IsDelivering}
 use Rattle.cloud_trait.specs.Machine.{Came}
 use Rattle.cloud_trait.specs.State.{Counts}
-use Rattle.cloud_trait.specs.Weather.{Fits, Leaves, Rose}
+use Rattle.cloud_trait.specs.Weather.{counted, Fits, Leaves, Rose}
 use Rattle.cloud_trait.specs.declared.answer.Answer.TheVariants.{Received}
 use Rattle.cloud_trait.specs.declared.turn.CkptAnswer.{CkptAnswer}
 use Rattle.db_base.specs.declared.names.QueueName.TheVariants as queue
@@ -184,7 +184,7 @@ story_grows tree first (d ∷ h) w now (from, (before, (story, turn, leads))) =
 
 -- ---- its calls, as they led from state to state
 
-pub delivers_of : (who : Caller) (ask : Ask) (a : Answer) (c e : Counts) (s : CloudState) (new : Option CloudState) → Leaves who ask a c e s new
+pub delivers_of : (who : Caller) (ask : Ask) (a : Answer) (c e : Counts) (s : CloudState) (new : Option CloudState) → Leaves who ask a (counted c s) e new
     → e.withheld ≡ c.withheld → Delivers ask a s
 delivers_of who (Receive q most) (Received ms) c e s new l same = on l.row.2
   where

@@ -25,7 +25,7 @@ use Rattle.session_facts.specs.Machines.Risings.Knows.{PutsNode, PutsOf, KnowsRi
 use Rattle.session_facts.proofs.Sessions.Shows.{IsFree, free_shown, held_before, held_newest, row_of, got_shown, put_shown, delete_fails, received_shown, given_shown}
 use Rattle.session_facts.proofs.Sessions.Spent.{IsToldBy}
 use Rattle.session_facts.proofs.Machines.TreeCheckpoints.Spent.{spends_bare, spends_begun, spends_behind, spends_leaf}
-use Rattle.session_facts.proofs.Machines.TreeCheckpoints.Troubles.{StopsFor, SpendsUp, descent_for, down_for, folding_for, rises_for, lands_for}
+use Rattle.session_facts.proofs.Machines.TreeCheckpoints.Troubles.{StopsFor, SpendsUp, gets_for, down_for, folding_for, rises_for, lands_for}
 use Rattle.split_plan.specs.declared.put_list.PagePut.{PagePut}
 use Rattle.split_plan.specs.Plan.{put_of, on_pages, node_bytes}
 use Rattle.tree_ckpt.specs.Making.{Making, making_ask, MakingLeads}
@@ -33,6 +33,7 @@ use Rattle.tree_ckpt.specs.Leases.{HasIds}
 use Rattle.tree_ckpt.proofs.Outcomes.{Seeks, Descends, Ascends, Clears, Fails, Comes, comes}
 use Rattle.tree_ckpt.proofs.Outcomes as step
 use Rattle.tree_ckpt.proofs.RiseOutcomes.{rises, lands}
+use Rattle.tree_ckpt.proofs.WayOutcomes.{gets}
 use Rattle.tree_phases.specs.declared.descent.Descent.{Descent}
 use Rattle.tree_ckpt.specs.declared.work.Held.{Held}
 use Rattle.tree_ckpt.specs.declared.work.Work.{Work}
@@ -247,7 +248,7 @@ module _ (who : Caller) (before after : Seen) (s t : CloudState) (told : before.
       descends_shows {w = w} call (step.begins {c = c} key s e) = down_for (Shows (work_ask tree w)) (free_shows (work_ask tree w)) (record c { key = key })
       descends_shows call (step.goes_on h d a) =
           let ask : Ask = GetHeld (object.Page d.chart.tree d.page) h.lease in
-          descent_for (Shows ask) (free_shows ask) d (got_of a) (λ q e. got_shown who before after s t told told_after held Spent (object.Page d.chart.tree d.page) h.lease a call q e)
+          gets_for (Shows ask) (free_shows ask) (gets d (got_of a)) (λ q e. got_shown who before after s t told told_after held Spent (object.Page d.chart.tree d.page) h.lease a call q e)
 
       ascends_shows : {w : Work} {a : Answer} {h : Held} {next : Next Rising (Unit {0})} → KnowsWork st now tree w → Call (work_ask tree w) a → Ascends tree w a h next
           → StopsFor (Shows (work_ask tree w)) next
@@ -310,15 +311,10 @@ released_keeps : (held : Leases) (q k : Trouble) (lease : Option Claim) → q �
 released_keeps held q k (Some l) e = ap (λ (x : Trouble). Some x) e
 released_keeps held q k None e = e
 
-end_keeps : (held : Leases) (end : Result CkptAnswer Trouble) (k : Trouble) (lease : Option Claim) → trouble_of_ending (Some end) ≡ Some k
-    → MeetsNext trouble_at (released_by held end lease) k
-end_keeps held (Ok a) k lease e = absurd (cc)
-end_keeps held (Err q) k lease e = released_keeps held q k lease (cc)
-
 -- it waits where leases are given back, and nowhere else
 work_keeps : (tree : ℕ) (w : Work) (a : Answer) (next : Step) → Leads tree w a next → (k : Trouble) → trouble_at w ≡ Some k → MeetsNext trouble_at next k
-work_keeps tree (work.Releasing held end) a next leads k e =
-    subst (λ (x : Step). MeetsNext trouble_at x k) (sym leads) (end_keeps (without_newest held) end k (newest_lease (without_newest held)) e)
+work_keeps tree (work.Releasing held (Err q)) a next leads k e =
+    subst (λ (x : Step). MeetsNext trouble_at x k) (sym leads) (released_keeps (without_newest held) q k (newest_lease (without_newest held)) (cc (e)))
 work_keeps tree w a next leads k e = absurd (cc (e))
 
 pub making_keeps : (m : Making) (a : Answer) (next : Next Making CkptAnswer) → MakingLeads m a next → (k : Trouble) → trouble_of_making m ≡ Some k → MeetsNext trouble_of_making next k

@@ -17,11 +17,11 @@ use Rattle.tree_ckpt.specs.Working.{HoldsLeaf}
 use Rattle.tree_ckpt.proofs.LeafOutcomes.{works}
 use Rattle.tree_ckpt.proofs.LeafOutcomes as leaf
 use Rattle.tree_ckpt.proofs.RiseOutcomes as rise
-use Rattle.tree_ckpt.proofs.WayOutcomes.{Arrives, arrives, Gets, gets}
+use Rattle.tree_ckpt.proofs.WayOutcomes.{Arrives, arrives, Gets}
 use Rattle.tree_ckpt.proofs.WayOutcomes as way
 use Rattle.tree_phases.specs.declared.descent.Descent.{Descent}
 use Rattle.tree_phases.specs.declared.fork.Fork.{Fork}
-use Rattle.tree_phases.specs.Descent.{begun, arrive, descent_got}
+use Rattle.tree_phases.specs.Descent.{begun}
 use Rattle.tree_ckpt.specs.Moves.{down_from, root_entry}
 use Rattle.tree_phases.specs.declared.chart.Chart.{Chart}
 use Rattle.tree_phases.specs.declared.kept.KeptNode.{KeptNode}
@@ -63,18 +63,12 @@ module _ (Met : Trouble → Type 0) (free : (t : Trouble) → IsFree t → Met t
   arrives_for (way.further d k fork p on) = arrives_for on
   arrives_for w = tt
 
-  arrive_for : (d : Descent) → StopsFor Met (arrive d)
-  arrive_for d = arrives_for (arrives d)
-
-  gets_for : {d : Descent} {g : Result (Option (List ℕ)) Trouble} {next : Next Descent (Unit {0})} → Gets d g next → ((t : Trouble) → g ≡ Err t → Met t) → StopsFor Met next
+  pub gets_for : {d : Descent} {g : Result (Option (List ℕ)) Trouble} {next : Next Descent (Unit {0})} → Gets d g next → ((t : Trouble) → g ≡ Err t → Met t) → StopsFor Met next
   gets_for (way.goes_on bytes n fork is leads on) refused = arrives_for on
   gets_for (way.wrong bytes t reads) refused = free t (node_free reads)
   gets_for {d = d} (way.no_root first) refused = free (damaged d.chart.tree d.page 0) tt
   gets_for {d = d} (way.absent other) refused = free (trouble.Absent d.page) tt
   gets_for (way.refused t) refused = refused t refl
-
-  pub descent_for : (d : Descent) (g : Result (Option (List ℕ)) Trouble) → ((t : Trouble) → g ≡ Err t → Met t) → StopsFor Met (descent_got d g)
-  descent_for d g refused = gets_for (gets d g) refused
 
   -- ---- a leaf
 
@@ -169,4 +163,4 @@ module _ (Met : Trouble → Type 0) (free : (t : Trouble) → IsFree t → Met t
   -- ---- from the tree object
 
   pub down_for : (to : Chart) → StopsFor Met (down_from to (root_entry to))
-  down_for to = arrive_for (begun to (root_entry to).0 (root_entry to).1)
+  down_for to = arrives_for (arrives (begun to (root_entry to).0 (root_entry to).1))

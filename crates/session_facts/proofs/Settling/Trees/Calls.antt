@@ -7,7 +7,7 @@ use Rattle.ckpt_parts.specs.declared.leases.Leases.{Leases}
 use Rattle.ckpt_parts.specs.Deleting.{next_id, tried}
 use Rattle.ckpt_parts.specs.Intakes.{has_items, TakesIn}
 use Rattle.ckpt_parts.specs.Leasing.{claims_of, newest_lease, without_newest}
-use Rattle.cloud_facts.specs.Words.{Trouble, PuItem, Answer, Claim, Next, Goes, Ends, Stops, done_of, got_of, received_of}
+use Rattle.cloud_facts.specs.Words.{Trouble, PuItem, Answer, Claim, Next, Goes, Ends, Stops, done_of, received_of}
 use Rattle.cloud_trait.specs.declared.message.Message.{Message}
 use Rattle.db_base.specs.declared.names.QueueName.TheVariants as queue
 use Rattle.tree_phases.specs.declared.folding.Folding.{Folding}
@@ -18,7 +18,7 @@ use Rattle.tree_phases.specs.Folding.{no_placing}
 use Rattle.run_cursor.specs.Run.{Taken}
 use Rattle.split_plan.specs.declared.put_list.PagePut.{PagePut}
 use Rattle.tree_ckpt.proofs.Charts.{GoesFurther, arrive_further, descent_further}
-use Rattle.tree_ckpt.proofs.Folds.{not_empty, GetLeaves, got_leaves}
+use Rattle.tree_ckpt.proofs.Folds.{not_empty, GetLeaves, reads_leave}
 use Rattle.tree_ckpt.proofs.Keys.{next_fewer, from_most}
 use Rattle.tree_ckpt.proofs.Tours.{page_left as has_page}
 use Rattle.tree_ckpt.proofs.Outcomes.{Seeks, Descends, Ascends, Clears, Fails, Comes, comes}
@@ -46,7 +46,7 @@ use Rattle.tree_phases.specs.Read.{tree_held}
 use Rattle.tree_phases.specs.declared.rising.Rising.{Rising}
 use Rattle.tree_phases.specs.Rising as rise
 use Rattle.session_facts.specs.Machines.TreeCheckpoints.Counting.{piece_calls, for_keys, next_of, around, at_leaves, up_left, calls_left}
-use Rattle.session_facts.proofs.Settling.Trees.Pieces.{node_few, last_few, GotLeaf, got_leaf}
+use Rattle.session_facts.proofs.Settling.Trees.Pieces.{node_few, last_few, GotLeaf, reads_leaf}
 
 -- ---- what its tree leaves room for
 
@@ -314,20 +314,17 @@ lands_below {f = f} p h some reserves (leaf.lands x e) = λ room.
     omega (arith, at, fewer)
 lands_below p h some reserves (leaf.not_put t) = λ room. omega arith
 
-below_folded : (p : ℕ) (h : Held) (f : Folding) (a : Answer) → FitsLeaf p f → Below p (calls_left p (work.Folding h f)) (folding_on h (fold.folding_next f a))
-below_folded p h f a (inl reading) =
-    subst (λ (placing : Placing). Below p (calls_left p (work.Folding h (record f { placing = placing })))
-    (folding_on h (fold.folding_next (record f { placing = placing }) a)))
-    (sym reading.0)
-    (below_got p h (record f { placing = no_placing }) (fold.leaf_got (record f { placing = no_placing }) (got_of a))
-    (got_leaves (record f { placing = no_placing }) (got_of a)) (got_leaf (record f { placing = no_placing }) (got_of a)))
-below_folded p h f a (inr putting) = on (works f a) where
-  on : {next : Next Folding Left} → leaf.Works f a next → Below p (calls_left p (work.Folding h f)) (folding_on h next)
-  on (leaf.gets nothing r) = let some = has_page f.placing putting.0 in absurd (cc (nothing, some))
-  on {next = next} (leaf.puts some l) = subst (λ (n : ℕ). Below p n (folding_on h next)) (sym (calls_at p h f putting.0)) (lands_below p h putting.0 putting.1 l)
+works_below : {f : Folding} {a : Answer} {next : Next Folding Left} (p : ℕ) (h : Held) → FitsLeaf p f → leaf.Works f a next → Below p (calls_left p (work.Folding h f)) (folding_on h next)
+works_below {f = f} {next = next} p h (inl reading) (leaf.gets nothing r) =
+    subst (λ (n : ℕ). Below p n (folding_on h next)) (sym (ap (λ (placing : Placing). calls_left p (work.Folding h (record f { placing = placing }))) reading.0))
+    (below_got p h f next (reads_leave r) (reads_leaf r))
+works_below p h (inl reading) (leaf.puts some l) = let nothing = ap has_nothing reading.0 in absurd (cc (nothing, some))
+works_below {f = f} p h (inr putting) (leaf.gets nothing r) = let some = has_page f.placing putting.0 in absurd (cc (nothing, some))
+works_below {f = f} {next = next} p h (inr putting) (leaf.puts some l) =
+    subst (λ (n : ℕ). Below p n (folding_on h next)) (sym (calls_at p h f putting.0)) (lands_below p h putting.0 putting.1 l)
 
 folded_below : (p : ℕ) (h : Held) (f : Folding) (a : Answer) (next : Next Folding Left) → FitsLeaf p f → fold.folding_next f a ≡ next → Below p (calls_left p (work.Folding h f)) (folding_on h next)
-folded_below p h f a next fits e = subst (λ (x : Next Folding Left). Below p (calls_left p (work.Folding h f)) (folding_on h x)) e (below_folded p h f a fits)
+folded_below p h f a next fits e = subst (λ (x : Next Folding Left). Below p (calls_left p (work.Folding h f)) (folding_on h x)) e (works_below p h fits (works f a))
 
 -- ---- wherever it stands
 

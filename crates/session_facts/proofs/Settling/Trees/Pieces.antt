@@ -6,13 +6,13 @@ use Rattle.tree_phases.specs.declared.folding.Folding.{Folding}
 use Rattle.tree_phases.specs.declared.folding.Left.TheVariants.{Right, Handled}
 use Rattle.tree_phases.specs.declared.page_plan.PagePlan.{PagePlan}
 use Rattle.tree_phases.specs.Plan.{leaf_plan}
-use Rattle.tree_phases.specs.Folding.{FoldingStep, no_placing, leaf_got}
+use Rattle.tree_phases.specs.Folding.{FoldingStep, no_placing}
 use Rattle.session_facts.specs.Machines.TreeCheckpoints.Counting.{pieces_by, piece_calls}
 use Rattle.split_plan.specs.declared.entry_list.NewEntry.{NewEntry}
 use Rattle.split_plan.specs.Part.{Part}
 use Rattle.split_plan.specs.Plan.{put_of, on_pages}
 use Rattle.tree_ckpt.proofs.Pieces.{PutsParts, leaf_puts, node_puts, root_places}
-use Rattle.tree_ckpt.proofs.LeafOutcomes.{Reads, reads}
+use Rattle.tree_ckpt.proofs.LeafOutcomes.{Reads}
 use Rattle.tree_ckpt.proofs.LeafOutcomes as step
 use Rattle.tree_ckpt.specs.Working.{Reserves, PutsPieces, raised_root}
 use Rattle.tree_phases.specs.declared.kept.KeptNode.{KeptNode}
@@ -72,11 +72,8 @@ GotLeaf f (Ends g (Right low page)) = (g.chart.root ≡ f.chart.root) × (g.visi
 GotLeaf f (Ends g Handled) = g.chart.root ≡ f.chart.root
 GotLeaf f (Stops g t) = Unit {0}
 
-reads_leaf : {f : Folding} {got : Result (Option (List ℕ)) Trouble} {next : FoldingStep} → Reads f got next → GotLeaf f next
+pub reads_leaf : {f : Folding} {got : Result (Option (List ℕ)) Trouble} {next : FoldingStep} → Reads f got next → GotLeaf f next
 reads_leaf (step.passes got l high right behind e) = (refl, refl)
 reads_leaf (step.spares got l here none) = refl
 reads_leaf {f = f} (step.plans got l x xs p here some e) = (refl, leaf_few (tree_held f.chart.root) f.page l f.chart.run.items p e, refl)
 reads_leaf c = tt
-
-pub got_leaf : (f : Folding) (got : Result (Option (List ℕ)) Trouble) → GotLeaf f (leaf_got f got)
-got_leaf f got = reads_leaf (reads f got)

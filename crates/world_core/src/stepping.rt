@@ -58,7 +58,7 @@ impl<S: SessionCalls> World<S> {
 
     /// Makes a step of a session that is at work under a wish, where the quota has a call left.
     #[tactic(auto, using(crate::proofs::QuotaLemmas::spends_not, crate::proofs::QuotaLemmas::spends_none))]
-    fn step_within<C: Bench>(
+    pub(crate) fn step_within<C: Bench>(
         &mut self,
         alloc: Global,
         cloud: &mut C,

@@ -467,12 +467,17 @@ impl<S: SessionCalls> World<S> {
         ensures grows { Grows who.event (C.seen cloud.old) (C.seen cloud.new) }
         ensures spends { SpendsQuota (C.seen cloud.old) (C.seen cloud.new) quota.old quota.new }
     {
+        let session = who.session;
+        // Looked at where it stands: nearly each step goes on, and to hand on what it came to costs as much as the rest of this.
         'steps: loop {
-            let turn = self.step_under(alloc, cloud, quota, who, Wish::Plain)?;
-            match turn {
-                Turn::More => {}
-                Turn::Ended(answer) => return Ok(answer),
-                Turn::Stopped(_) => unreachable!(),
+            match self.step_within(alloc, cloud, quota, who, Wish::Plain) {
+                Ok(Turn::More) => {}
+                Ok(Turn::Ended(answer)) => return Ok(answer),
+                Ok(Turn::Stopped(_)) => unreachable!(),
+                Err(fault) => {
+                    self.break_off(session);
+                    return Err(fault);
+                }
             }
         }
     }

@@ -76,6 +76,10 @@ impl<H: Hand> SessionCalls for Session<H> {
         Session::step(self, alloc, cloud, who)
     }
 
+    fn step_at_work<C: Cloud>(&mut self, alloc: Global, cloud: &mut C, who: Who) -> Turn<Answer> {
+        Session::step_at_work(self, alloc, cloud, who)
+    }
+
     fn client(&self) -> Result<ClientId, Refusal> {
         Session::client(self)
     }

@@ -1,4 +1,4 @@
-ghost use Rattle.std.specs.Prelude.{◌≡◌, ◌≤◌, ◌<◌, ◌↔◌, [], length, None, IfOk, IfErr, OnOk, OnErr};
+ghost use Rattle.std.specs.Prelude.{◌≡◌, ◌≤◌, ◌<◌, ◌↔◌, true, [], length, None, Ok, IfOk, IfErr, OnOk, OnErr};
 ghost use Rattle.std.specs.Option.{option_map, option_copied};
 ghost use Rattle.cloud_trait.specs.Call.{ask_of};
 ghost use Rattle.db_base.specs.Entry.{entry_bytes};
@@ -64,7 +64,7 @@ impl<H: Hand> Model for Session<H> {
 
 impl<H: Hand> Session<H> {
     ghost use Rattle.client_work.specs.BrokenOff.{broken_off};
-    ghost use Rattle.client_work.specs.Session.{Acting, HasNoted, HasPut, HasDropped, closed_session, MayIndex, NoteRefused, PutRefused, AbortRefused, Begins, StepsSession, settling_session, sweeping_session, ask_of_work, committing_of, opens_of, applying_of, value_of, items_of, open_client};
+    ghost use Rattle.client_work.specs.Session.{Acting, HasNoted, HasPut, HasDropped, closed_session, MayIndex, NoteRefused, PutRefused, AbortRefused, Begins, StepsSession, settling_session, sweeping_session, ask_of_work, committing_of, opens_of, applying_of, value_of, items_of, is_working, open_client};
 
     /// A closed session without changes. Refused for memory alone.
     pub fn new(alloc: Global) -> Result<Session<H>, Refused>
@@ -220,7 +220,16 @@ impl<H: Hand> Session<H> {
         if !phase.is_working() {
             return Err(Refused::Rule(Refusal::NotWorking));
         }
-        phase.drop_noted(&mut self.buffer);
+        Ok(self.step_at_work(alloc, cloud, who))
+    }
+
+    /// The same of a session that is known to be at work, which is never refused.
+    pub fn step_at_work<C: Cloud>(&mut self, alloc: Global, cloud: &mut C, who: Who) -> Turn<Answer>
+        requires { is_working self.old.work ≡ true }
+        ensures { StepsSession who (C.seen cloud.old) (C.seen cloud.new)
+            self.old self.new (Ok result) }
+    {
+        self.work.phase().drop_noted(&mut self.buffer);
         let turn = self.work.step(
             alloc,
             cloud,
@@ -229,9 +238,8 @@ impl<H: Hand> Session<H> {
             &self.buffer,
             &mut self.shown,
         );
-        let left = self.work.phase();
-        left.drop_kept(&mut self.cache);
-        Ok(turn)
+        self.work.phase().drop_kept(&mut self.cache);
+        turn
     }
 
     /// The client of an open session with nothing at work; or the rule that refuses an operation of it.

@@ -1,11 +1,11 @@
 //! The calls of a session that a world makes, whatever works inside it.
 
-ghost use Rattle.std.specs.Prelude.{◌≡◌, ◌≤◌, length, IfOk, IfErr, OnOk, OnErr};
+ghost use Rattle.std.specs.Prelude.{◌≡◌, ◌≤◌, true, length, Ok, IfOk, IfErr, OnOk, OnErr};
 ghost use Rattle.std.specs.Option.{option_map, option_copied};
 ghost use Rattle.db_base.specs.Limits.{most_changes};
 ghost use Rattle.cloud_trait.specs.Call.{ask_of};
 ghost use Rattle.client_work.specs.BrokenOff.{broken_off};
-ghost use Rattle.client_work.specs.Session.{Acting, HasNoted, HasPut, HasDropped, closed_session, settling_session, sweeping_session, MayIndex, NoteRefused, PutRefused, AbortRefused, Begins, StepsSession, ask_of_work, committing_of, opens_of, applying_of, value_of, items_of, open_client};
+ghost use Rattle.client_work.specs.Session.{Acting, HasNoted, HasPut, HasDropped, closed_session, settling_session, sweeping_session, MayIndex, NoteRefused, PutRefused, AbortRefused, Begins, StepsSession, ask_of_work, committing_of, opens_of, applying_of, value_of, items_of, is_working, open_client};
 
 use crate::answer::{Answer, Begun};
 use crate::op::Op;
@@ -95,6 +95,12 @@ pub trait SessionCalls: Drop {
     ) -> Result<Turn<Answer>, Refused>
         ensures { StepsSession who (C.seen cloud.old) (C.seen cloud.new)
             (acting self.old) (acting self.new) result };
+
+    /// The same of a session that is known to be at work, which is never refused.
+    fn step_at_work<C: Cloud>(&mut self, alloc: Global, cloud: &mut C, who: Who) -> Turn<Answer>
+        requires { is_working (acting self.old).work ≡ true }
+        ensures { StepsSession who (C.seen cloud.old) (C.seen cloud.new)
+            (acting self.old) (acting self.new) (Ok result) };
 
     /// The client of an open session with nothing at work; or the rule that refuses an operation of it.
     fn client(&self) -> Result<ClientId, Refusal>

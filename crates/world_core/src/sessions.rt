@@ -140,10 +140,7 @@ impl<S: SessionCalls> Sessions<S> {
         ensures { Changes who.session (λ a b. StepsSession who (C.seen cloud.old) (C.seen cloud.new) a b
             (Ok result)) self.old self.new }
     {
-        match self.list[place_of(who.session)].step(alloc, cloud, who) {
-            Ok(turn) => turn,
-            Err(_) => unreachable!(),
-        }
+        self.list[place_of(who.session)].step_at_work(alloc, cloud, who)
     }
 }
 

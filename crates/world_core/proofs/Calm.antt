@@ -23,6 +23,7 @@ use Rattle.db_base.specs.Value.{Value}
 use Rattle.event_text.specs.declared.event.Event.{Event}
 use Rattle.event_text.specs.declared.event.Event.TheVariants as event
 use Rattle.replay_meaning.specs.Standing.{Line, Task, Opening, Closing, Renewing, Committing, Reading, Scanning, LookingUp, Paging, Folding, Posture, Working, session_of, standing}
+use Rattle.session_facts.specs.Sessions.Calls.{session_step}
 use Rattle.session_facts.specs.Lines.Answers.{IsSoundReply}
 use Rattle.session_facts.proofs.Rows.CallKinds.{errand_goes}
 use Rattle.session_facts.specs.Lines.Errands.{Errand, settles, sweeps, event_for, session_for, WorksOn}
@@ -122,7 +123,7 @@ went_calmly who before old after new start calm explains well = well
 went_calmly who before old after new (further mid _ world _ went step) calm explains well =
     goes_calmly who Plain mid after world new step calm.1 explains.1 (went_calmly who before old mid world went calm.0 explains.0 well)
 
-tells_any : (who : Caller) (before after : Seen) (old new : Acting) (a : Answer) (p : StepsSession who before after old new (Ok (Ended a))) → StepsCalmly who before after old new (Ended a) p
+tells_any : (who : Caller) (before after : Seen) (old new : Acting) (a : Answer) (p : StepsSession who before after old new (Ok (Ended a))) → StepsCalmly (session_step who before after old new (Ended a)) p
     → (c : CommitAnswer) → a ≡ answer.Commit c → IsTold c
 tells_any who before after old new (answer.Commit b) p calm c e = let same : b ≡ c = cc in subst IsTold same (commit_tells who before after old new b p calm.memory)
 tells_any who before after old new a p calm c e = absurd (cc (e))

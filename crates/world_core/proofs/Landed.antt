@@ -24,7 +24,7 @@ use Rattle.cloud_trait.specs.declared.answer.Answer.TheVariants as call
 use Rattle.db_base.specs.declared.names.QueueName.TheVariants.{Atomic, TreePu, PagePu}
 use Rattle.db_base.specs.declared.wish.Wish.{Wish}
 use Rattle.session_facts.proofs.Sessions.Replied.{IsReplied, replied}
-use Rattle.session_facts.specs.Sessions.Calls.{reply_of}
+use Rattle.session_facts.specs.Sessions.Calls.{session_step, reply_of}
 use Rattle.session_notes.proofs.MeterLemmas.{adds_none, kept_less}
 use Rattle.session_notes.specs.Metered.{SendNoMore, sent_since}
 use Rattle.session_notes.specs.Notebook.{note_of_ask, note_of_end, with_note}
@@ -142,7 +142,7 @@ module _ (who : Caller) (wish : Wish) (before after : Seen) (old new : World) (t
   w = p.session.before.work
 
   abbrev reply : Reply
-  reply = reply_of who p.under p.to p.session.before p.session.after turn p.session.does
+  reply = reply_of (session_step who p.under p.to p.session.before p.session.after turn) p.session.does
 
   made : IsReplied who p.under p.to w reply
   made = replied who p.under p.to p.session.before p.session.after turn p.session.does

@@ -30,7 +30,7 @@ use Rattle.session_facts.proofs.Settling.Pages.Runs.{pages_run}
 use Rattle.session_facts.proofs.Settling.Recoveries.Runs.{recoveries_run}
 use Rattle.session_facts.proofs.Settling.Trees.Runs.{trees_run}
 use Rattle.session_facts.proofs.Settling.Turns.{settler, OnWay, of_session, IsAlone, calm_with, step_on, step_ends, first_moment, begins_on}
-use Rattle.session_facts.specs.Sessions.Calls.{reply_of}
+use Rattle.session_facts.specs.Sessions.Calls.{session_step, reply_of}
 use Rattle.session_facts.proofs.Sessions.Explains.Sessions.{session_explains}
 use Rattle.session_facts.proofs.Sessions.Stops.{session_stops}
 use Rattle.session_facts.proofs.Lines.Outcome.{MadeCall, made_call}
@@ -65,7 +65,7 @@ abbrev Gives : StepFact → (Deed → Type 0) → ℕ → Type 0
 Gives Holds P n =
     (before after : Seen) (old new : World) (turn : Turn Answer) (p : StepsLooked (settler n) Plain (span_of before after old new) turn) (m : Settling)
     → p.session.before.work ≡ work.Settling m → Holds (settler n) Plain (span_of before after old new) turn p
-    → P (record { who = settler n; ask = settle_ask m; answer = reply_of (settler n) p.under p.to p.session.before p.session.after turn p.session.does; before = p.under; after = p.to })
+    → P (record { who = settler n; ask = settle_ask m; answer = reply_of (session_step (settler n) p.under p.to p.session.before p.session.after turn) p.session.does; before = p.under; after = p.to })
 
 -- the settler is under way in a world, over a cloud that is told
 record WorldOnWay (B : Settling → Moment → Type 0) (P : Deed → Type 0) (world : World) (seen : Seen) : Type 0 where
@@ -163,7 +163,7 @@ calm_gives n before after old new turn p m is holds =
           (λ (ask : Ask). IsCalm (record {
             who = settler n;
             ask = ask;
-            answer = reply_of (settler n) p.under p.to p.session.before p.session.after turn p.session.does;
+            answer = reply_of (session_step (settler n) p.under p.to p.session.before p.session.after turn) p.session.does;
             before = p.under;
             after = p.to;
           })) asked holds.calm,
@@ -213,7 +213,7 @@ module _ (n : ℕ) where
     call_calm : IsCalm (record {
       who = settler n;
       ask = settle_ask way.settling;
-      answer = reply_of (settler n) p.under p.to p.session.before p.session.after turn p.session.does;
+      answer = reply_of (session_step (settler n) p.under p.to p.session.before p.session.after turn) p.session.does;
       before = p.under;
       after = p.to;
     })

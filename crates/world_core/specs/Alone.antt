@@ -5,6 +5,7 @@ use Rattle.event_text.specs.declared.event.Event.{Event}
 use Rattle.event_text.specs.declared.event.Event.TheVariants as event
 use Rattle.replay_meaning.specs.Standing.{Line, session_of}
 use Rattle.reply_text.specs.declared.reply.Reply.{Reply}
+use Rattle.session_facts.specs.Sessions.Calls.{session_step}
 use Rattle.session_facts.specs.Sessions.Alone.{IsAlone, StepsUndisturbed}
 use Rattle.world_core.specs.Calm.{StepIsCalm, work_at}
 use Rattle.world_core.specs.EachStep.{StepFact, EachStep}
@@ -16,7 +17,7 @@ use Rattle.world_core.specs.Span.{Span}
 
 -- a step of a session was undisturbed
 abbrev pub StepIsUndisturbed : StepFact
-StepIsUndisturbed who wish span turn p = StepsUndisturbed who p.under p.to p.session.before p.session.after turn p.session.does
+StepIsUndisturbed who wish span turn p = StepsUndisturbed (session_step who p.under p.to p.session.before p.session.after turn) p.session.does
 
 -- a session of a world is alone
 abbrev pub IsAloneIn : ℕ → World → CloudState → Type 0

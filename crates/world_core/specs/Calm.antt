@@ -8,6 +8,7 @@ use Rattle.db_base.specs.declared.trouble.Counter.{Counter}
 use Rattle.event_text.specs.declared.event.Event.{Event}
 use Rattle.event_text.specs.declared.event.Event.TheVariants as event
 use Rattle.replay_meaning.specs.Standing.{Line, Task, Opening, Closing, Renewing, Committing, Reading, Scanning, LookingUp, Paging, Folding, Posture, Working, session_of, standing}
+use Rattle.session_facts.specs.Sessions.Calls.{session_step}
 use Rattle.session_facts.specs.Lines.Facts.{session_at}
 use Rattle.reply_text.specs.declared.reply.Reply.{Reply}
 use Rattle.reply_text.specs.declared.reply.Reply.TheVariants as reply
@@ -23,7 +24,7 @@ use Rattle.world_core.specs.Span.{Span}
 
 -- a step of a session was calm
 abbrev pub StepIsCalm : StepFact
-StepIsCalm who wish span turn p = StepsCalmly who p.under p.to p.session.before p.session.after turn p.session.does
+StepIsCalm who wish span turn p = StepsCalmly (session_step who p.under p.to p.session.before p.session.after turn) p.session.does
 
 -- what a session of a world has in hand
 abbrev pub work_at : World → ℕ → Work

@@ -16,7 +16,7 @@ use Rattle.reply_text.specs.declared.reply.Reply.{Reply}
 use Rattle.reply_text.specs.declared.reply.Reply.TheVariants as reply
 use Rattle.session_facts.specs.Lines.Answers.{IsSoundReply}
 use Rattle.session_facts.specs.Lines.Facts.{session_at, SomeBookStands}
-use Rattle.session_facts.specs.Sessions.Calls.{reply_of}
+use Rattle.session_facts.specs.Sessions.Calls.{session_step, reply_of}
 use Rattle.session_facts.specs.Sessions.Spent.{IsSpentToSettle}
 use Rattle.session_facts.specs.Sessions.Untroubled.{GivesBackLasting, IsSpent, IsUntroubled}
 use Rattle.session_facts.specs.Settling.Bound.{SettlesWithin}
@@ -37,7 +37,7 @@ StepDelivers who wish span turn p = p.to.counts.withheld ≡ p.under.counts.with
 pub record StepGoesWell (who : Caller) (wish : Wish) (span : Span) (turn : Turn Answer) (p : StepsLooked who wish span turn) : Type 0 where
   pub ask : Ask
   pub hand : ask_of_work p.session.before.work ≡ Some ask
-  pub memory : reply_of who p.under p.to p.session.before p.session.after turn p.session.does ≢ Memory
+  pub memory : reply_of (session_step who p.under p.to p.session.before p.session.after turn) p.session.does ≢ Memory
   pub counts : p.to.counts ≡ p.under.counts
   pub lasting : (t : CloudState) → p.to.state ≡ Some t → NamesLasting ask t.now
   pub returned : (t : CloudState) → p.to.state ≡ Some t → GivesBackLasting ask t.now

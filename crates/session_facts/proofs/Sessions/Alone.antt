@@ -39,7 +39,7 @@ use Rattle.session_facts.proofs.Settling.Trees.Leases.{making_holds, making_uses
 use Rattle.session_facts.specs.Machines.Openings.Knows.{KnowsOpening, leases_of_recovery}
 use Rattle.session_facts.specs.Machines.PageCheckpoints.Knows.{KnowsPaging, leases_of_paging}
 use Rattle.session_facts.specs.Sessions.Alone.{IsAlone, StepsUndisturbed}
-use Rattle.session_facts.specs.Sessions.Calls.{closing_reply, commit_reply, folding_reply, looking_reply, opening_reply, paging_reply, reading_reply, reply_at, reply_of, settling_reply, sweeping_reply}
+use Rattle.session_facts.specs.Sessions.Calls.{session_step, calling_of, closing_reply, commit_reply, folding_reply, looking_reply, opening_reply, paging_reply, reading_reply, reply_at, reply_of, settling_reply, sweeping_reply}
 use Rattle.session_facts.specs.Sessions.Knows.{KnowsWork, Sessions, SessionsStand, leases_of}
 use Rattle.session_facts.specs.Sessions.Untroubled.{StepsCalmly}
 use Rattle.session_facts.specs.Settling.Locks.{HoldsAlone, UsesOwn}
@@ -123,7 +123,7 @@ module _ (who : Caller) (before after : Seen) (s t : CloudState) (told : before.
         turns (recovery_ask r) a (leases_of_recovery r) new made found (recovery_uses st now r part k sound) alone
         (sym (opening.next_leases step new to) ∙ recovery_leaves st now r part k sound a step leads)
 
-    opening_alone : (new : Work) (turn : Turn Answer) → (p : StepsOpening who before after r new turn) → opening_reply who before after r new turn p ≢ Memory → FindsMemory turn
+    opening_alone : (new : Work) (turn : Turn Answer) → (p : StepsOpening who before after r new turn) → opening_reply (calling_of who before after) r new turn p ≢ Memory → FindsMemory turn
         → Goes_on (recovery_ask r) new
     opening_alone new More (m, steps, is, less) found fair = opens steps.answer steps.made found (Goes m) new steps.took is
     opening_alone new (Ended (answer.Opened epoch)) (m, steps, is) found fair = opens steps.answer steps.made found (Ends m (Opened epoch)) new steps.took is
@@ -139,7 +139,7 @@ module _ (who : Caller) (before after : Seen) (s t : CloudState) (told : before.
         (commit.next_leases (home_of_run r).lease step d new to (subst (RunLeaseStays (home_of_run r).lease) leads (run_lease (r, c) a))
         ∙ sym (quiet_after (run_ask r) a ((home_of_run r).lease ∷ []) (run_moves_none r)))
 
-    commit_alone : (new : Work) (turn : Turn Answer) → (p : StepsCommit who before after (r, c) (new, d) turn) → commit_reply who before after (r, c) (new, d) turn p ≢ Memory → FindsMemory turn
+    commit_alone : (new : Work) (turn : Turn Answer) → (p : StepsCommit who before after (r, c) (new, d) turn) → commit_reply (calling_of who before after) (r, c) (new, d) turn p ≢ Memory → FindsMemory turn
         → Goes_on (run_ask r) new
     commit_alone new More (m, steps, is, less) found fair = commits steps.answer steps.made found (Goes (m, d)) new steps.took (is, refl)
     commit_alone new (Ended (answer.Commit a)) (m, steps, is) found fair = commits steps.answer steps.made found (Ends (m, d) a) new steps.took (is, refl)
@@ -154,7 +154,7 @@ module _ (who : Caller) (before after : Seen) (s t : CloudState) (told : before.
     gets name a made found new e = turns (Get name) a (home.lease ∷ []) new made found tt alone e
 
     reading_alone : (buffer : List Noted) (w : Walk) (c d : Cache) (new : Work) (shown : Shown) (turn : Turn Answer) → (p : ReadsBy who before after (in_hand home w c) (acting_of buffer new d shown) turn)
-        → reading_reply who before after (in_hand home w c) (acting_of buffer new d shown) turn p ≢ Memory → Goes_on (walk_ask w) new
+        → reading_reply (calling_of who before after) (in_hand home w c) (acting_of buffer new d shown) turn p ≢ Memory → Goes_on (walk_ask w) new
     reading_alone buffer w c d new shown More (m, steps, is, none) found = gets (object_of w) steps.answer steps.made found new (ap leases_of is)
     reading_alone buffer w c d new shown (Ended answer.Value) (m, page, steps, there, is, some) found = gets (object_of w) steps.answer steps.made found new (ap leases_of is)
     reading_alone buffer w c d new shown (Ended (answer.Trouble q)) (m, steps, is, none) found =
@@ -167,7 +167,7 @@ module _ (who : Caller) (before after : Seen) (s t : CloudState) (told : before.
         gets (scan_object l.scan) p.steps.answer p.steps.made found new (follows_leases home buffer (record { scan = p.scan; pairs = l.pairs }) d p.moved new shown turn p.follows)
 
     looking_alone : (buffer : List Noted) (l : Look) (c d : Cache) (new : Work) (shown : Shown) (turn : Turn Answer) → (p : LooksBy who before after (in_hand home l c) (acting_of buffer new d shown) turn)
-        → looking_reply who before after (in_hand home l c) (acting_of buffer new d shown) turn p ≢ Memory → Goes_on (look_ask l) new
+        → looking_reply (calling_of who before after) (in_hand home l c) (acting_of buffer new d shown) turn p ≢ Memory → Goes_on (look_ask l) new
     looking_alone buffer l c d new shown More (m, steps, is, none, less) found = gets (object_of l.walk) steps.walked.answer steps.walked.made found new (ap leases_of is)
     looking_alone buffer l c d new shown (Ended answer.Scan) (m, steps, is, some) found = gets (object_of l.walk) steps.walked.answer steps.walked.made found new (ap leases_of is)
     looking_alone buffer l c d new shown (Ended (answer.Trouble q)) (m, steps, is, none) found =
@@ -178,7 +178,7 @@ module _ (who : Caller) (before after : Seen) (s t : CloudState) (told : before.
 
   module _ (st : Store) (now : ℕ) (home : Home) (client : ℕ) (is_lock : home.lease.lock ≡ lock.Client client) where
     paging_alone : (p : Page) → KnowsPaging st now p → HoldsAlone (home.lease ∷ leases_of_paging p) s → (new : Work) (turn : Turn Answer) → (q : StepsPaging who before after (home, p) new turn)
-        → paging_reply who before after (home, p) new turn q ≢ Memory → FindsMemory turn → Goes_on (paging_ask p) new
+        → paging_reply (calling_of who before after) (home, p) new turn q ≢ Memory → FindsMemory turn → Goes_on (paging_ask p) new
     paging_alone p k alone = on
       where
         goes : (a : Reply) → Makes who (paging_ask p) a before after → a ≢ Memory → (new : Work) (left : List Claim) → leases_of new ≡ home.lease ∷ left
@@ -186,7 +186,7 @@ module _ (who : Caller) (before after : Seen) (s t : CloudState) (told : before.
         goes a made found new left e same =
             beside home (paging_ask p) a (leases_of_paging p) made found (paging_other home.lease client is_lock p) (paging_uses st now p k) alone new left e same
 
-        on : (new : Work) (turn : Turn Answer) → (q : StepsPaging who before after (home, p) new turn) → paging_reply who before after (home, p) new turn q ≢ Memory → FindsMemory turn
+        on : (new : Work) (turn : Turn Answer) → (q : StepsPaging who before after (home, p) new turn) → paging_reply (calling_of who before after) (home, p) new turn q ≢ Memory → FindsMemory turn
             → Goes_on (paging_ask p) new
         on new More (m, steps, is, less) found fair =
             goes steps.answer steps.made found new (leases_of_paging m) (ap leases_of is) (paging_holds st now p k steps.answer (Goes m) steps.took)
@@ -198,7 +198,7 @@ module _ (who : Caller) (before after : Seen) (s t : CloudState) (told : before.
         on new turn q found fair = absurd q
 
     folding_alone : (m : Making) → KnowsMaking st now m → HoldsAlone (home.lease ∷ leases_of_making m) s → (new : Work) (turn : Turn Answer) → (q : StepsFolding who before after (home, m) new turn)
-        → folding_reply who before after (home, m) new turn q ≢ Memory → FindsMemory turn → Goes_on (making_ask m) new
+        → folding_reply (calling_of who before after) (home, m) new turn q ≢ Memory → FindsMemory turn → Goes_on (making_ask m) new
     folding_alone m k alone = on
       where
         goes : (a : Reply) → Makes who (making_ask m) a before after → a ≢ Memory → (new : Work) (left : List Claim) → leases_of new ≡ home.lease ∷ left
@@ -206,7 +206,7 @@ module _ (who : Caller) (before after : Seen) (s t : CloudState) (told : before.
         goes a made found new left e same =
             beside home (making_ask m) a (leases_of_making m) made found (making_other home.lease client is_lock m) (making_uses st now m k) alone new left e same
 
-        on : (new : Work) (turn : Turn Answer) → (q : StepsFolding who before after (home, m) new turn) → folding_reply who before after (home, m) new turn q ≢ Memory → FindsMemory turn
+        on : (new : Work) (turn : Turn Answer) → (q : StepsFolding who before after (home, m) new turn) → folding_reply (calling_of who before after) (home, m) new turn q ≢ Memory → FindsMemory turn
             → Goes_on (making_ask m) new
         on new More (n, steps, is, less) found fair =
             goes steps.answer steps.made found new (leases_of_making n) (ap leases_of is) (making_holds st now m k steps.answer (Goes n) steps.took)
@@ -220,7 +220,7 @@ module _ (who : Caller) (before after : Seen) (s t : CloudState) (told : before.
   -- ---- a close and a renewal
 
   module _ (l : Claim) (alone : HoldsAlone (l ∷ []) s) where
-    closing_alone : (new : Work) (turn : Turn Answer) → (p : StepsClosing l who before after new turn) → closing_reply l who before after new turn p ≢ Memory → Goes_on (Release l) new
+    closing_alone : (new : Work) (turn : Turn Answer) → (p : StepsClosing l who before after new turn) → closing_reply l (calling_of who before after) new turn p ≢ Memory → Goes_on (Release l) new
     closing_alone new (Ended answer.Closed) (gives, is) found = turns (Release l) gives.answer (l ∷ []) new gives.made found refl alone (ap leases_of is)
     closing_alone new (Ended (answer.Trouble q)) (gives, is) found = turns (Release l) gives.answer (l ∷ []) new gives.made found refl alone (ap leases_of is)
     closing_alone new turn p found = absurd p
@@ -252,7 +252,7 @@ module _ (who : Caller) (before after : Seen) (s t : CloudState) (told : before.
         → Goes_on (sweep_ask m) new
     sweeps_on a made found new e = turns (sweep_ask m) a (leases_of_sweep m) new made found (sweep_uses m (held_at m.stage st now m k.at)) alone e
 
-    sweeping_alone : (new : Work) (turn : Turn Answer) → (p : StepsSweeping who before after m new turn) → sweeping_reply who before after m new turn p ≢ Memory → FindsMemory turn
+    sweeping_alone : (new : Work) (turn : Turn Answer) → (p : StepsSweeping who before after m new turn) → sweeping_reply (calling_of who before after) m new turn p ≢ Memory → FindsMemory turn
         → Goes_on (sweep_ask m) new
     sweeping_alone new More (n, steps, is, less) found fair =
         sweeps_on steps.did.answer steps.did.made found new (ap leases_of is ∙ sweep_holds m steps.did.answer (Goes n) (held_at m.stage st now m k.at) steps.did.took)
@@ -270,7 +270,7 @@ module _ (who : Caller) (before after : Seen) (s t : CloudState) (told : before.
         → Goes_on (settle_ask m) new
     settles a made found new e = turns (settle_ask m) a (leases_of_settling m) new made found (settling_uses st now m part k.work sound) alone e
 
-    settling_step_alone : (new : Work) (turn : Turn Answer) → (p : StepsSettling who before after m new turn) → settling_reply who before after m new turn p ≢ Memory → FindsMemory turn
+    settling_step_alone : (new : Work) (turn : Turn Answer) → (p : StepsSettling who before after m new turn) → settling_reply (calling_of who before after) m new turn p ≢ Memory → FindsMemory turn
         → Goes_on (settle_ask m) new
     settling_step_alone new More (n, steps, is, less) found fair =
         settles steps.did.answer steps.did.made found new (ap leases_of is ∙ settling_holds st now m part k.work sound steps.did.answer (Goes n) steps.did.took)
@@ -305,7 +305,8 @@ module _ (who : Caller) (before after : Seen) (s t : CloudState) (book : Book) (
   found_so work new ask hand goes = (ask, hand, goes.0, goes.1)
 
   by_work : (buffer : List Noted) (work new : Work) (d : Cache) (shown : Shown) (turn : Turn Answer) → old ≡ work → IsAlone work s → (p : StepsAt who before after work new turn)
-      → (q : ShowsAt who before after (work, kept) (acting_of buffer new d shown) turn) → reply_at who before after (work, kept) (acting_of buffer new d shown) turn p q ≢ Memory → FindsMemory turn → StepsAlone work new
+      → (q : ShowsAt who before after (work, kept) (acting_of buffer new d shown) turn)
+      → reply_at (calling_of who before after) (work, kept) (acting_of buffer new d shown) turn p q ≢ Memory → FindsMemory turn → StepsAlone work new
   by_work buffer (Opening r) new d shown turn is alone p q found fair =
       found_so (Opening r) new (recovery_ask r) refl (opening_alone who before after s t told told_after counts st s.now r (stand.parts who.session) (known (Opening r) is) p.0 alone new turn p.1 found fair)
   by_work buffer (Committing r) new d shown turn is alone p q found fair =
@@ -335,7 +336,7 @@ module _ (who : Caller) (before after : Seen) (s t : CloudState) (book : Book) (
   by_work buffer (Broken l) new d shown turn is alone p q found fair = absurd p
 
   own_alone : (new : Acting) (turn : Turn Answer) → (p : StepsSession who before after (sessions who.session) new (Ok turn)) → IsAlone old s
-      → reply_of who before after (sessions who.session) new turn p ≢ Memory → FindsMemory turn → StepsAlone old new.work
+      → reply_of (session_step who before after (sessions who.session) new turn) p ≢ Memory → FindsMemory turn → StepsAlone old new.work
   own_alone new turn p alone found fair = by_work new.buffer old new.work p.shown.0 new.shown turn refl alone p.work p.shown.1 found fair
 
 same_ask : (a b : Ask) → Some a ≡ Some b → a ≡ b
@@ -344,13 +345,13 @@ same_ask a b e = cc
 -- An undisturbed step of a session that is alone is calm, and leaves it alone.
 pub session_alone : (who : Caller) (before after : Seen) (s t : CloudState) (book : Book) (order : List Entry) (sessions : Sessions) → before.state ≡ Some s → after.state ≡ Some t
     → SessionsStand book order s sessions → (a new : Acting) (turn : Turn Answer) → sessions who.session ≡ a → (p : StepsSession who before after a new (Ok turn)) → IsAlone a.work s
-    → StepsUndisturbed who before after a new turn p → StepsCalmly who before after a new turn p × IsAlone new.work t
+    → StepsUndisturbed (session_step who before after a new turn) p → StepsCalmly (session_step who before after a new turn) p × IsAlone new.work t
 session_alone who before after s t book order sessions told told_after stand a new turn is =
-    subst (λ (b : Acting). (p : StepsSession who before after b new (Ok turn)) → IsAlone b.work s → StepsUndisturbed who before after b new turn p
-    → StepsCalmly who before after b new turn p × IsAlone new.work t) is own
+    subst (λ (b : Acting). (p : StepsSession who before after b new (Ok turn)) → IsAlone b.work s → StepsUndisturbed (session_step who before after b new turn) p
+    → StepsCalmly (session_step who before after b new turn) p × IsAlone new.work t) is own
   where
     own : (p : StepsSession who before after (sessions who.session) new (Ok turn)) → IsAlone (sessions who.session).work s
-        → StepsUndisturbed who before after (sessions who.session) new turn p → StepsCalmly who before after (sessions who.session) new turn p × IsAlone new.work t
+        → StepsUndisturbed (session_step who before after (sessions who.session) new turn) p → StepsCalmly (session_step who before after (sessions who.session) new turn) p × IsAlone new.work t
     own p alone x =
         let does = own_alone who before after s t book order sessions told told_after stand x.counts new turn p alone x.heard x.found in (
           record {

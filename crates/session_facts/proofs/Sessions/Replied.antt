@@ -14,7 +14,7 @@ use Rattle.page_ckpt.specs.Paging.{paging_ask}
 use Rattle.attr_index.specs.Look.{look_ask}
 use Rattle.range_scan.specs.Scan.{scan_ask}
 use Rattle.recover_run.specs.Recovery.{recovery_ask}
-use Rattle.session_facts.specs.Sessions.Calls.{reply_at, reply_of}
+use Rattle.session_facts.specs.Sessions.Calls.{session_step, calling_of, reply_at, reply_of}
 use Rattle.orphan_sweep.specs.Sweeping.{sweep_ask}
 use Rattle.settle_run.specs.Settling.{settle_ask}
 use Rattle.tree_ckpt.specs.Making.{making_ask}
@@ -28,7 +28,8 @@ pub record IsReplied (who : Caller) (before after : Seen) (w : Work) (reply : Re
   pub made : Makes who ask reply before after
 
 replied_at : (who : Caller) (before after : Seen) (buffer : List Noted) (old : Work) (c d : Cache) (new : Work) (shown : Shown) (turn : Turn Answer) → (p : StepsAt who before after old new turn)
-    → (q : ShowsAt who before after (old, c) (acting_of buffer new d shown) turn) → IsReplied who before after old (reply_at who before after (old, c) (acting_of buffer new d shown) turn p q)
+    → (q : ShowsAt who before after (old, c) (acting_of buffer new d shown) turn)
+    → IsReplied who before after old (reply_at (calling_of who before after) (old, c) (acting_of buffer new d shown) turn p q)
 replied_at who before after buffer (Opening m) c d new shown More p q = record { ask = recovery_ask m; hand = refl; made = p.1.1.made }
 replied_at who before after buffer (Opening m) c d new shown (Ended (answer.Opened epoch)) p q = record { ask = recovery_ask m; hand = refl; made = p.1.1.made }
 replied_at who before after buffer (Opening m) c d new shown (Ended (answer.Trouble k)) p q = record { ask = recovery_ask m; hand = refl; made = p.1.1.made }
@@ -73,5 +74,5 @@ replied_at who before after buffer (Idle home) c d new shown turn p q = absurd p
 replied_at who before after buffer (Broken lease) c d new shown turn p q = absurd p
 
 pub replied : (who : Caller) (before after : Seen) (old new : Acting) (turn : Turn Answer) → (p : StepsSession who before after old new (Ok turn))
-    → IsReplied who before after old.work (reply_of who before after old new turn p)
+    → IsReplied who before after old.work (reply_of (session_step who before after old new turn) p)
 replied who before after old new turn p = replied_at who before after new.buffer old.work old.cache p.shown.0 new.work new.shown turn p.work p.shown.1

@@ -22,7 +22,7 @@ use Rattle.recover_run.specs.declared.home.Home.{Home}
 use Rattle.recover_run.specs.Recovery.{home_of}
 use Rattle.txn_buffer.specs.Noted.{Noted}
 use Rattle.session_facts.specs.Machines.CommitRuns.Stops.{MayStopCommit, MayEnd}
-use Rattle.session_facts.specs.Sessions.Calls.{GivesLateBack, IsExplained, WaitsLate, reply_at, reply_of}
+use Rattle.session_facts.specs.Sessions.Calls.{session_step, calling_of, GivesLateBack, IsExplained, WaitsLate, reply_at, reply_of}
 use Rattle.session_facts.specs.Sessions.Explains.{Explains, IsShown, KeepsTrouble, Meets, left_in, left_told, spent_for, trouble_in, trouble_of_answer, trouble_of_commit}
 use Rattle.session_facts.specs.Sessions.Knows.{leases_of}
 use Rattle.session_facts.specs.Sessions.Spent.{IsSpentToCommit, IsSpentInPages, IsSpentInTree}
@@ -127,7 +127,7 @@ pub record IsCalmly (ask : Ask) (c d : Counts) (s t : CloudState) (old new : Wor
   pub lasting : NamesLasting ask t.now
   pub returned : GivesBackLasting ask t.now
   pub grown : HasGrown s t
-  pub explains : Explains ask c d s t old new turn
+  pub explains : Explains ask (c, s) (d, t) old new turn
   pub waits : trouble_in old ≡ None → left_in old ≡ 0 → (have need : ℕ) → Meets new turn (trouble.Waiting have need) → Rose c.withheld d.withheld ⊎ WaitsLate new turn t.now
 
 same_ask : (a b : Ask) → Some a ≡ Some b → a ≡ b
@@ -235,15 +235,15 @@ module _ (ask : Ask) (c d : Counts) (s t : CloudState) (old new : Work) where
       on None none = met (met_none ask c d s t old new (Ended a) calm well none k (inr is))
       on (Some j) was = kept j was (calm.explains.kept j was)
 
-module _ (who : Caller) (before after : Seen) (old new : Acting) (turn : Turn Answer) (p : StepsSession who before after old new (Ok turn)) (calm : StepsCalmly who before after old new turn p)
-    (explained : (s t : CloudState) → before.state ≡ Some s → after.state ≡ Some t → IsExplained who before after old new turn s t p) where
+module _ (who : Caller) (before after : Seen) (old new : Acting) (turn : Turn Answer) (p : StepsSession who before after old new (Ok turn)) (calm : StepsCalmly (session_step who before after old new turn) p)
+    (explained : (s t : CloudState) → before.state ≡ Some s → after.state ≡ Some t → IsExplained (session_step who before after old new turn) s t p) where
   abbrev s : CloudState
   s = calm.calm.before
 
   abbrev t : CloudState
   t = calm.calm.after
 
-  abbrev x : IsExplained who before after old new turn s t p
+  abbrev x : IsExplained (session_step who before after old new turn) s t p
   x = explained s t calm.calm.told calm.calm.left
 
   one : x.ask ≡ calm.ask
@@ -257,13 +257,13 @@ module _ (who : Caller) (before after : Seen) (old new : Acting) (turn : Turn An
     lasting = calm.calm.lasting;
     returned = calm.returned;
     grown = x.grown;
-    explains = subst (λ a. Explains a before.counts after.counts s t old.work new.work turn) one (x.explains calm.memory);
+    explains = subst (λ a. Explains a (before.counts, s) (after.counts, t) old.work new.work turn) one (x.explains calm.memory);
     waits = x.waits calm.memory;
   }
 
 -- a calm step that goes on leaves what is at work untroubled
-pub step_untroubled : (who : Caller) (before after : Seen) (old new : Acting) (p : StepsSession who before after old new (Ok More)) → (calm : StepsCalmly who before after old new More p)
-    → ((s t : CloudState) → before.state ≡ Some s → after.state ≡ Some t → IsExplained who before after old new More s t p) → IsUntroubled calm.calm.before old.work
+pub step_untroubled : (who : Caller) (before after : Seen) (old new : Acting) (p : StepsSession who before after old new (Ok More)) → (calm : StepsCalmly (session_step who before after old new More) p)
+    → ((s t : CloudState) → before.state ≡ Some s → after.state ≡ Some t → IsExplained (session_step who before after old new More) s t p) → IsUntroubled calm.calm.before old.work
     → IsUntroubled calm.calm.after new.work
 step_untroubled who before after old new p calm explained well =
     goes_untroubled calm.ask before.counts after.counts calm.calm.before calm.calm.after old.work new.work (calmly who before after old new More p calm explained)
@@ -271,8 +271,8 @@ step_untroubled who before after old new p calm explained well =
 
 -- an answer of a calm step has no trouble that a call brought, and no failed deletions
 pub answer_untroubled : (who : Caller) (before after : Seen) (old new : Acting) (a : Answer) (p : StepsSession who before after old new (Ok (Ended a)))
-    → (calm : StepsCalmly who before after old new (Ended a) p)
-    → ((s t : CloudState) → before.state ≡ Some s → after.state ≡ Some t → IsExplained who before after old new (Ended a) s t p) → IsUntroubled calm.calm.before old.work
+    → (calm : StepsCalmly (session_step who before after old new (Ended a)) p)
+    → ((s t : CloudState) → before.state ≡ Some s → after.state ≡ Some t → IsExplained (session_step who before after old new (Ended a)) s t p) → IsUntroubled calm.calm.before old.work
     → ((k : Trouble) → trouble_of_answer a ≡ Some k → IsOfNoCall (spent_for old.work) calm.calm.after k) × (left_told new.work (Ended a) ≡ 0)
 answer_untroubled who before after old new a p calm explained well =
     let c = calmly who before after old new (Ended a) p calm explained in (
@@ -397,7 +397,7 @@ scan_no_commit home buffer m c (Stopped t) new shown a f = cc (f.2)
 
 tells_at : (who : Caller) (before after : Seen) (buffer : List Noted) (w : Work) (c d : Cache) (new : Work) (shown : Shown) (a : CommitAnswer)
     → (p : StepsAt who before after w new (Ended (answer.Commit a))) → (q : ShowsAt who before after (w, c) (acting_of buffer new d shown) (Ended (answer.Commit a)))
-    → reply_at who before after (w, c) (acting_of buffer new d shown) (Ended (answer.Commit a)) p q ≢ Memory → IsTold a
+    → reply_at (calling_of who before after) (w, c) (acting_of buffer new d shown) (Ended (answer.Commit a)) p q ≢ Memory → IsTold a
 tells_at who before after buffer (Committing m) c d new shown a p q found = subst EndsTold q.0.1.took (run_tells (m, c) q.0.1.answer found)
 tells_at who before after buffer (Opening m) c d new shown a p q found = absurd p.1
 tells_at who before after buffer (Reading home m) c d new shown a p q found = absurd p
@@ -416,7 +416,7 @@ tells_at who before after buffer (Broken lease) c d new shown a p q found = absu
 
 -- that of a step whose call found memory
 pub commit_tells : (who : Caller) (before after : Seen) (old new : Acting) (a : CommitAnswer) → (p : StepsSession who before after old new (Ok (Ended (answer.Commit a))))
-    → reply_of who before after old new (Ended (answer.Commit a)) p ≢ Memory → IsTold a
+    → reply_of (session_step who before after old new (Ended (answer.Commit a))) p ≢ Memory → IsTold a
 commit_tells who before after old new a p found = tells_at who before after new.buffer old.work old.cache p.shown.0 new.work new.shown a p.work p.shown.1 found
 
 -- a commit that is refused for no call, or stays open for none

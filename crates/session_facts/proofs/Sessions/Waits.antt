@@ -33,11 +33,11 @@ gives_back w ask now hand (l, is, over) = (l, hand ∙ ap (λ (a : Ask). Some a)
 
 module _ (ask : Ask) (c d : Counts) (s t : CloudState) (old new : Work) (turn : Turn Answer) where
   -- what shows that it waits
-  shows_wait : Explains ask c d s t old new turn → trouble_in old ≡ None → left_in old ≡ 0 → (have need : ℕ) → Meets new turn (trouble.Waiting have need)
+  shows_wait : Explains ask (c, s) (d, t) old new turn → trouble_in old ≡ None → left_in old ≡ 0 → (have need : ℕ) → Meets new turn (trouble.Waiting have need)
       → Rose c.withheld d.withheld ⊎ ReceivesLate ask (leases_of old) t.now
   shows_wait x none clean have need meets = x.shown none clean (trouble.Waiting have need) (λ e. cc) meets
 
-  pub quiet_waits : (ReceivesLate ask (leases_of old) t.now → ⊥) → Explains ask c d s t old new turn → trouble_in old ≡ None → left_in old ≡ 0 → (have need : ℕ)
+  pub quiet_waits : (ReceivesLate ask (leases_of old) t.now → ⊥) → Explains ask (c, s) (d, t) old new turn → trouble_in old ≡ None → left_in old ≡ 0 → (have need : ℕ)
       → Meets new turn (trouble.Waiting have need) → Rose c.withheld d.withheld ⊎ WaitsLate new turn t.now
   quiet_waits quiet x none clean have need meets = on (shows_wait x none clean have need meets)
     where
@@ -56,7 +56,7 @@ module _ (who : Caller) (before after : Seen) (s t : CloudState) where
         → MeetsNext trouble_of_recovery next (trouble.Waiting have need) → ReceivesLate (recovery_ask r) (leases_of_recovery r) t.now → RecoveryGivesBack st t.now r part reply knows next
     gives_late reply none next leads have need meets late = recovery_late st t.now r part reply knows none next leads have need meets late
 
-    pub opening_waits : (work : Work) (turn : Turn Answer) → StepsOpening who before after r work turn → Explains (recovery_ask r) before.counts after.counts s t (Opening r) work turn
+    pub opening_waits : (work : Work) (turn : Turn Answer) → StepsOpening who before after r work turn → Explains (recovery_ask r) (before.counts, s) (after.counts, t) (Opening r) work turn
         → trouble_of_recovery r ≡ None → (have need : ℕ) → Meets work turn (trouble.Waiting have need) → Withheld ⊎ WaitsLate work turn t.now
     opening_waits work turn steps x none have need meets = on (shows_wait (recovery_ask r) before.counts after.counts s t (Opening r) work turn x none refl have need meets)
       where

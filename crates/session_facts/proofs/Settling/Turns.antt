@@ -20,7 +20,7 @@ use Rattle.session_facts.proofs.Sessions.Laws.{rest_keeps}
 use Rattle.session_facts.proofs.Settling.Along.{Hands, Along, along_step, along_begins}
 use Rattle.session_facts.proofs.Settling.Free.{settling_takes_free, settling_alone}
 use Rattle.session_facts.proofs.Settling.Stories.{settling_known}
-use Rattle.session_facts.specs.Sessions.Calls.{reply_at, reply_of}
+use Rattle.session_facts.specs.Sessions.Calls.{session_step, calling_of, reply_at, reply_of}
 use Rattle.session_facts.specs.Sessions.Knows.{Sessions, SessionsStand, Goes as SessionGoes}
 use Rattle.session_facts.specs.Settling.Locks.{HoldsAlone}
 use Rattle.session_facts.specs.Settling.Story.{Moment, store_at, IsAtWork, IsTurn}
@@ -50,7 +50,7 @@ same_settling k m e = cc (e)
 
 stepped : (who : Caller) (before after : Seen) (buffer : List Noted) (old : Work) (c d : Cache) (new : Work) (shown : Shown) (turn : Turn Answer)
     → (p : StepsAt who before after old new turn) → (q : ShowsAt who before after (old, c) (acting_of buffer new d shown) turn) → (m : Settling) → old ≡ work.Settling m
-    → IsStep who before after m (reply_at who before after (old, c) (acting_of buffer new d shown) turn p q) new turn
+    → IsStep who before after m (reply_at (calling_of who before after) (old, c) (acting_of buffer new d shown) turn p q) new turn
 stepped who before after buffer (work.Settling k) c d new shown More p q m e =
     subst (λ (x : Settling). IsStep who before after x p.1.1.did.answer new More) (same_settling k m e) (p.1.1.did.made, (p.1.0, (p.1.1.did.took, p.1.2)))
 stepped who before after buffer (work.Settling k) c d new shown (Ended (answer.Settled x)) p q m e =
@@ -135,7 +135,7 @@ module _ (B : Settling → Moment → Type 0) (E : Settling → Settled → Mome
 
   module _ (turn : Turn Answer) (p : StepsSession (settler n) before after old new (Ok turn)) where
     abbrev reply : Reply
-    reply = reply_of (settler n) before after old new turn p
+    reply = reply_of (session_step (settler n) before after old new turn) p
 
     abbrev deed : Deed
     deed = call_with reply
@@ -186,9 +186,9 @@ module _ (B : Settling → Moment → Type 0) (E : Settling → Settled → Mome
 
   -- a call that went well: no count of failures rose, and it found memory
   abbrev WasWell : (p : StepsSession (settler n) before after old new (Ok More)) → Type 0
-  WasWell p = IsAlone m s × (after.counts ≡ before.counts × (reply_of (settler n) before after old new More p ≢ Memory))
+  WasWell p = IsAlone m s × (after.counts ≡ before.counts × (reply_of (session_step (settler n) before after old new More) p ≢ Memory))
 
-  alone_on : (p : StepsSession (settler n) before after old new (Ok More)) → (k : Settling) → SettleLeads m (reply_of (settler n) before after old new More p) (Goes k)
+  alone_on : (p : StepsSession (settler n) before after old new (Ok More)) → (k : Settling) → SettleLeads m (reply_of (session_step (settler n) before after old new More) p) (Goes k)
       → WasWell p → IsAlone k (left More p).after
   alone_on p k leads (alone, (same, found)) =
       settling_alone (store_at from) from.state.now m (from.stand.parts 0) (settling_known from m.part at_work).work
@@ -200,7 +200,7 @@ module _ (B : Settling → Moment → Type 0) (E : Settling → Settled → Mome
       never rose = let e : after.counts.faults ≡ before.counts.faults = ap (λ (c : Counts). c.faults) same in omega (arith, rose, e)
 
   -- a step that goes on
-  pub step_on : (p : StepsSession (settler n) before after old new (Ok More)) → P (call_with (reply_of (settler n) before after old new More p)) → GoesOnWay B P new after (WasWell p)
+  pub step_on : (p : StepsSession (settler n) before after old new (Ok More)) → P (call_with (reply_of (session_step (settler n) before after old new More) p)) → GoesOnWay B P new after (WasWell p)
   step_on p is =
       let led = (step More p).1 in
       record {
@@ -219,7 +219,7 @@ module _ (B : Settling → Moment → Type 0) (E : Settling → Settled → Mome
 
   -- a step that ends
   pub step_ends : (x : Settled) (p : StepsSession (settler n) before after old new (Ok (Ended (answer.Settled x))))
-      → P (call_with (reply_of (settler n) before after old new (Ended (answer.Settled x)) p)) → AtEnd E x after
+      → P (call_with (reply_of (session_step (settler n) before after old new (Ended (answer.Settled x))) p)) → AtEnd E x after
   step_ends x p is =
       let led = (step (Ended (answer.Settled x)) p).1 in
       record {

@@ -221,7 +221,7 @@ left_told new (Stopped q) = 0
 
 -- what a step of an operation brings: a trouble that it meets is shown by its call, want of memory and deletions that failed before apart; a
 -- trouble that it met before is its answer; and no more deletions failed than before, unless a call failed
-pub record Explains (ask : Ask) (c d : Counts) (s t : CloudState) (old new : Work) (turn : Turn Answer) : Type 0 where
-  pub shown : trouble_in old ≡ None → left_in old ≡ 0 → (k : Trouble) → k ≢ trouble.Memory → Meets new turn k → IsShown ask (leases_of old) (spent_for old) (c, s) (d, t) k
+pub record Explains (ask : Ask) (before after : Counts × CloudState) (old new : Work) (turn : Turn Answer) : Type 0 where
+  pub shown : trouble_in old ≡ None → left_in old ≡ 0 → (k : Trouble) → k ≢ trouble.Memory → Meets new turn k → IsShown ask (leases_of old) (spent_for old) before after k
   pub kept : (k : Trouble) → trouble_in old ≡ Some k → KeepsTrouble new turn k
-  pub left : (left_told new turn ≤ left_in old) ⊎ Rose c.faults d.faults
+  pub left : (left_told new turn ≤ left_in old) ⊎ Rose before.0.faults after.0.faults

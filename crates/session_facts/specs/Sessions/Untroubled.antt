@@ -1,16 +1,15 @@
 -- When a session goes on and is answered well: where its calls are calm.
-use Rattle.std.specs.Prelude.{ℕ, ◌≡◌, ◌≢◌, Some, Ok}
+use Rattle.std.specs.Prelude.{ℕ, ◌≡◌, ◌≢◌, Some}
 use Rattle.cloud_trait.specs.Calm.{IsCalm}
-use Rattle.client_work.specs.Session.{Acting, StepsSession, ask_of_work}
-use Rattle.client_work.specs.declared.answer.Answer.{Answer}
+use Rattle.client_work.specs.Session.{ask_of_work}
 use Rattle.client_work.specs.declared.work.Work.{Work}
 use Rattle.cloud_trait.specs.declared.answer.Answer.TheVariants.{Memory}
-use Rattle.cloud_facts.specs.Words.{Trouble, CommitAnswer, Turn, CloudState, Caller, Seen, Lasts, Ask, Release}
+use Rattle.cloud_facts.specs.Words.{Trouble, CommitAnswer, CloudState, Lasts, Ask, Release}
 use Rattle.db_base.specs.declared.trouble.CommitAnswer.TheVariants.{Committed, NotCommitted}
 use Rattle.db_base.specs.declared.trouble.Counter.{Counter}
 use Rattle.db_base.specs.declared.trouble.Trouble.TheVariants as trouble
 use Rattle.session_facts.specs.Machines.PageCheckpoints.Knows.{IsNamedOne}
-use Rattle.session_facts.specs.Sessions.Calls.{GivesLateBack, reply_of}
+use Rattle.session_facts.specs.Sessions.Calls.{IsMade, SessionStep, GivesLateBack, reply_of}
 use Rattle.session_facts.specs.Sessions.Explains.{left_in, spent_for, trouble_in}
 use Rattle.session_facts.specs.Sessions.Spent.{IsSpentToCommit, IsSpentInPages}
 
@@ -21,12 +20,12 @@ GivesBackLasting ask now = Unit {0}
 
 -- A step was calm: its call found memory and no count rose in it, the lock that it takes was free, and the leases that it names lasted, also one that
 -- it gives back.
-pub record StepsCalmly (who : Caller) (before after : Seen) (old new : Acting) (turn : Turn Answer) (p : StepsSession who before after old new (Ok turn)) : Type 0 where
+pub record StepsCalmly (x : SessionStep) (p : IsMade x) : Type 0 where
   pub ask : Ask
-  pub hand : ask_of_work old.work ≡ Some ask
-  pub calm : IsCalm (record { who = who; ask = ask; answer = reply_of who before after old new turn p; before = before; after = after })
+  pub hand : ask_of_work x.old.work ≡ Some ask
+  pub calm : IsCalm (record { who = x.who; ask = ask; answer = reply_of x p; before = x.before; after = x.after })
   pub returned : GivesBackLasting ask calm.after.now
-  pub memory : reply_of who before after old new turn p ≢ Memory
+  pub memory : reply_of x p ≢ Memory
 
 -- no call of the cloud brings such a trouble; one of a counter that is spent comes where the cloud tells so
 abbrev pub IsOfNoCall : (CloudState → Counter → Type 0) → CloudState → Trouble → Type 0

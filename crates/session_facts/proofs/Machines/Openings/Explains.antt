@@ -116,7 +116,7 @@ module _ (who : Caller) (before after : Seen) (s t : CloudState) (book : Book) (
 
     -- a step of an opening
     pub opening_explains : (work : Work) (turn : Turn Answer) → StepsOpening who before after r work turn
-        → Explains (recovery_ask r) before.counts after.counts s t (Opening r) work turn
+        → Explains (recovery_ask r) (before.counts, s) (after.counts, t) (Opening r) work turn
     opening_explains work turn steps = record {
       shown = λ none clean k other meets. meets_shown work turn steps none k other meets;
       kept = waits_kept work turn steps;

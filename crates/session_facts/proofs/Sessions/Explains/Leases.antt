@@ -23,7 +23,7 @@ module _ (who : Caller) (before after : Seen) (s t : CloudState) (told : before.
 
   -- an operation of one call, in which no trouble waits: it explains itself where a trouble that it answers is shown
   one_call : (ask : Ask) (old work : Work) (a : Answer) → trouble_in old ≡ None → trouble_in work ≡ None → ((k : Trouble) → trouble_of_turn (Ended a) ≡ Some k → Shows ask old k)
-      → (left_told work (Ended a) ≤ left_in old) ⊎ Rose before.counts.faults after.counts.faults → Explains ask before.counts after.counts s t old work (Ended a)
+      → (left_told work (Ended a) ≤ left_in old) ⊎ Rose before.counts.faults after.counts.faults → Explains ask (before.counts, s) (after.counts, t) old work (Ended a)
   one_call ask old work a none rests shows left_is = record {
     shown = λ free clean k other meets. on k meets;
     kept = λ k e. never_some (trouble_in old) k none e;
@@ -39,7 +39,7 @@ module _ (who : Caller) (before after : Seen) (s t : CloudState) (told : before.
 
   -- the one step of a close
   pub closing_explains : (lease : Claim) (work : Work) (turn : Turn Answer) → StepsClosing lease who before after work turn
-      → Explains (Release lease) before.counts after.counts s t (Closing lease) work turn
+      → Explains (Release lease) (before.counts, s) (after.counts, t) (Closing lease) work turn
   closing_explains lease work (Ended answer.Closed) steps =
       one_call (Release lease) (Closing lease) work answer.Closed refl (ap trouble_in steps.1) (λ k e. none_is k e) (inl (omega arith))
   closing_explains lease work (Ended (answer.Trouble q)) steps =
@@ -59,7 +59,7 @@ module _ (who : Caller) (before after : Seen) (s t : CloudState) (told : before.
 
   -- the one step of a renewal
   pub renewing_explains : (home : Home) (work : Work) (turn : Turn Answer) → StepsRenewing home who before after work turn
-      → Explains (Renew home.lease 600) before.counts after.counts s t (Renewing home) work turn
+      → Explains (Renew home.lease 600) (before.counts, s) (after.counts, t) (Renewing home) work turn
   renewing_explains home work (Ended (answer.Renewed end)) steps =
       one_call (Renew home.lease 600) (Renewing home) work (answer.Renewed end) refl (ap trouble_in steps.2) (λ k e. none_is k e) (inl (omega arith))
   renewing_explains home work (Ended (answer.Trouble q)) steps =

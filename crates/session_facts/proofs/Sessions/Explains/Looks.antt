@@ -27,7 +27,7 @@ module _ (who : Caller) (before after : Seen) (s t : CloudState) (book : Book) (
   st = store_of book order s
 
   abbrev Explained : Work → Turn Answer → Type 0
-  Explained work turn = Explains (look_ask l) before.counts after.counts s t (Looking home l) work turn
+  Explained work turn = Explains (look_ask l) (before.counts, s) (after.counts, t) (Looking home l) work turn
 
   abbrev ShowsLook : Trouble → Type 0
   ShowsLook k = IsShown (look_ask l) (leases_of (Looking home l)) (spent_for (Looking home l)) (before.counts, s) (after.counts, t) k

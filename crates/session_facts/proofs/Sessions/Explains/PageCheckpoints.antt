@@ -14,7 +14,7 @@ use Rattle.db_base.specs.declared.trouble.Trouble.TheVariants as trouble
 use Rattle.page_ckpt.specs.Paging.{Paging, paging_ask, PagingLeads, KeepsLeases}
 use Rattle.recover_run.specs.declared.home.Home.{Home}
 use Rattle.session_facts.specs.Machines.PageCheckpoints.Knows.{KnowsPaging}
-use Rattle.session_facts.specs.Sessions.Calls.{paging_reply}
+use Rattle.session_facts.specs.Sessions.Calls.{calling_of, paging_reply}
 use Rattle.session_facts.specs.Sessions.Explains.{Explains, IsShown, Meets, left_in, trouble_in}
 use Rattle.session_facts.specs.Sessions.Spent.{IsSpentInPages}
 use Rattle.session_facts.specs.Sessions.Knows.{leases_of}
@@ -28,7 +28,7 @@ module _ (who : Caller) (before after : Seen) (s t : CloudState) (told : before.
   Taken m turn = Steps paging_ask PagingLeads KeepsLeases who before after p m turn
 
   abbrev Does : Turn Answer → Type 0
-  Does turn = Explains (paging_ask p) before.counts after.counts s t (PagingOn home p) work turn
+  Does turn = Explains (paging_ask p) (before.counts, s) (after.counts, t) (PagingOn home p) work turn
 
   goes_on : (m : Paging) (steps : Taken m More) → steps.answer ≢ Memory → work ≡ PagingOn home m → Does More
   goes_on m steps found is = record {
@@ -68,7 +68,7 @@ module _ (who : Caller) (before after : Seen) (s t : CloudState) (told : before.
           (steps.took.0 (λ memory. other (sym same ∙ memory))) k same
 
   -- a step of a page checkpoint, where there was memory for its call
-  pub paging_explains : (turn : Turn Answer) (steps : StepsPaging who before after (home, p) work turn) → paging_reply who before after (home, p) work turn steps ≢ Memory → Does turn
+  pub paging_explains : (turn : Turn Answer) (steps : StepsPaging who before after (home, p) work turn) → paging_reply (calling_of who before after) (home, p) work turn steps ≢ Memory → Does turn
   paging_explains More steps found = goes_on steps.0 steps.1 found steps.2
   paging_explains (Ended (answer.Done n)) steps found = ends n steps.0 steps.1 found steps.2
   paging_explains (Ended (answer.Trouble q)) steps found = stops q steps.0 steps.1 steps.2

@@ -19,7 +19,7 @@ use Rattle.page_cache.specs.Cache.{Cache}
 use Rattle.page_ckpt.specs.Paging.{paging_ask}
 use Rattle.range_scan.specs.Scan.{scan_ask}
 use Rattle.recover_run.specs.Recovery.{recovery_ask}
-use Rattle.session_facts.specs.Sessions.Calls.{IsExplained, WaitsLate, reply_at}
+use Rattle.session_facts.specs.Sessions.Calls.{session_step, calling_of, IsExplained, WaitsLate, reply_at}
 use Rattle.session_facts.specs.Sessions.Explains.{Explains, Meets, ReceivesLate, left_in, trouble_in}
 use Rattle.session_facts.specs.Sessions.Knows.{KnowsKept, KnowsWork, Sessions, SessionsStand, leases_of}
 use Rattle.session_facts.proofs.Machines.Openings.Explains.{opening_explains}
@@ -71,7 +71,7 @@ module _ (who : Caller) (before after : Seen) (s t : CloudState) (book : Book) (
 
   -- by what was at work
   abbrev Explained : Work → Work → Turn Answer → Reply → Type 0
-  Explained work new turn reply = (ask : Ask) × (ask_of_work work ≡ Some ask) × (reply ≢ Memory → Explains ask before.counts after.counts s t work new turn)
+  Explained work new turn reply = (ask : Ask) × (ask_of_work work ≡ Some ask) × (reply ≢ Memory → Explains ask (before.counts, s) (after.counts, t) work new turn)
 
   later_at : (work new : Work) (turn : Turn Answer) → StepsAt who before after work new turn → s.now ≤ t.now
   later_at work new turn steps =
@@ -91,7 +91,8 @@ module _ (who : Caller) (before after : Seen) (s t : CloudState) (book : Book) (
       → Rose before.counts.withheld after.counts.withheld ⊎ WaitsLate new turn t.now
 
   by_work : (buffer : List Noted) (work new : Work) (c : Cache) (shown : Shown) (turn : Turn Answer) → old ≡ work → (steps : StepsAt who before after work new turn)
-      → (shows : ShowsAt who before after (work, kept) (acting_of buffer new c shown) turn) → Explained work new turn (reply_at who before after (work, kept) (acting_of buffer new c shown) turn steps shows)
+      → (shows : ShowsAt who before after (work, kept) (acting_of buffer new c shown) turn)
+      → Explained work new turn (reply_at (calling_of who before after) (work, kept) (acting_of buffer new c shown) turn steps shows)
   by_work buffer (Opening r) new c shown turn is steps shows =
       (recovery_ask r, refl, λ found. opening_explains who before after s t book order sessions told told_after stand r is steps.0 new turn steps.1)
   by_work buffer (Committing r) new c shown turn is steps shows = (
@@ -128,10 +129,10 @@ module _ (who : Caller) (before after : Seen) (s t : CloudState) (book : Book) (
   by_work buffer (Broken l) new c shown turn is never shows = absurd never
 
   waits_at : (work new : Work) (turn : Turn Answer) → old ≡ work → StepsAt who before after work new turn → (ask : Ask) → ask_of_work work ≡ Some ask
-      → Explains ask before.counts after.counts s t work new turn → Waits work new turn
+      → Explains ask (before.counts, s) (after.counts, t) work new turn → Waits work new turn
   waits_at (Opening r) new turn is steps ask hand x = λ none clean have need meets.
       opening_waits who before after s t st r (stand.parts who.session) (known_in (Opening r) is (later_at (Opening r) new turn steps)) new turn steps.1
-      (subst (λ a. Explains a before.counts after.counts s t (Opening r) new turn) (cc (hand)) x) none have need meets
+      (subst (λ a. Explains a (before.counts, s) (after.counts, t) (Opening r) new turn) (cc (hand)) x) none have need meets
   waits_at (Settling m) new turn is steps ask hand x = λ none clean have need meets.
       settling_waits who before after s t book order told told_after stand.cloud (stand.parts who.session) (holds (later_at (Settling m) new turn steps)) m
       (known_in (Settling m) is (later_at (Settling m) new turn steps)).work steps.0 new turn steps.1 none have need meets
@@ -170,7 +171,7 @@ module _ (who : Caller) (before after : Seen) (s t : CloudState) (book : Book) (
   waits_at (Broken l) new turn is never ask hand x = absurd never
 
   own_explains : (new : Acting) (turn : Turn Answer) → (steps : StepsSession who before after (sessions who.session) new (Ok turn))
-      → IsExplained who before after (sessions who.session) new turn s t steps
+      → IsExplained (session_step who before after (sessions who.session) new turn) s t steps
   own_explains new turn steps =
       let e = by_work new.buffer old new.work steps.shown.0 new.shown turn refl steps.work steps.shown.1 in
       record {
@@ -183,6 +184,6 @@ module _ (who : Caller) (before after : Seen) (s t : CloudState) (book : Book) (
 
   -- a step of a session
   pub session_explains : (a new : Acting) (turn : Turn Answer) → sessions who.session ≡ a → (steps : StepsSession who before after a new (Ok turn))
-      → IsExplained who before after a new turn s t steps
+      → IsExplained (session_step who before after a new turn) s t steps
   session_explains a new turn is =
-      subst (λ (b : Acting). (steps : StepsSession who before after b new (Ok turn)) → IsExplained who before after b new turn s t steps) is (own_explains new turn)
+      subst (λ (b : Acting). (steps : StepsSession who before after b new (Ok turn)) → IsExplained (session_step who before after b new turn) s t steps) is (own_explains new turn)

@@ -11,7 +11,7 @@ use Rattle.cloud_facts.proofs.Calls.Calls.{call_of}
 use Rattle.cloud_trait.specs.declared.answer.Answer.TheVariants.{Memory}
 use Rattle.cloud_trait.specs.Weather.{Makes}
 use Rattle.db_base.specs.declared.trouble.Trouble.TheVariants as trouble
-use Rattle.session_facts.specs.Sessions.Calls.{settling_reply}
+use Rattle.session_facts.specs.Sessions.Calls.{calling_of, settling_reply}
 use Rattle.session_facts.specs.Sessions.Explains.{trouble_of_part, left_of_part, Meets, IsShown, Explains}
 use Rattle.session_facts.specs.Sessions.Spent.{IsSpentToSettle}
 use Rattle.session_facts.specs.Sessions.Knows.{leases_of, KnowsWork, Sessions, SessionsStand}
@@ -35,7 +35,7 @@ module _ (who : Caller) (before after : Seen) (s t : CloudState) (book : Book) (
 
   module _ (m : SettlingState) (is : old ≡ Settling m) (grown : HasAll s t) (sound : IsSoundPart m.part) where
     abbrev Explained : Work → Turn Answer → Type 0
-    Explained work turn = Explains (settle_ask m) before.counts after.counts s t (Settling m) work turn
+    Explained work turn = Explains (settle_ask m) (before.counts, s) (after.counts, t) (Settling m) work turn
 
     module _ (reply : Reply) (made : Makes who (settle_ask m) reply before after) (found : reply ≢ Memory) where
       later : s.now ≤ t.now
@@ -89,8 +89,8 @@ module _ (who : Caller) (before after : Seen) (s t : CloudState) (book : Book) (
               settle_shows who before after s t book order told told_after stand.cloud (stand.parts who.session) holds reply found (told_later book order s t stand.cloud grown) m knows.work sound made (Stops n q)
               (leads (λ memory. other (sym same ∙ memory))) none clean k same
 
-    pub settling_explains : (work : Work) (turn : Turn Answer) → (steps : StepsSettling who before after m work turn) → settling_reply who before after m work turn steps ≢ Memory
-        → Explains (settle_ask m) before.counts after.counts s t (Settling m) work turn
+    pub settling_explains : (work : Work) (turn : Turn Answer) → (steps : StepsSettling who before after m work turn) → settling_reply (calling_of who before after) m work turn steps ≢ Memory
+        → Explains (settle_ask m) (before.counts, s) (after.counts, t) (Settling m) work turn
     settling_explains work More (n, steps, to, less) found = subst (λ (w : Work). Explained w More) (sym to) (goes_on steps.did.answer steps.did.made found n steps.did.took)
     settling_explains work (Ended (answer.Settled x)) (n, steps, to) found =
         subst (λ (w : Work). Explained w (Ended (answer.Settled x))) (sym to) (ends steps.did.answer steps.did.made found n x steps.did.took)

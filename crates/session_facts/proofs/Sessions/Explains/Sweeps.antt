@@ -71,7 +71,7 @@ module _ (who : Caller) (before after : Seen) (s t : CloudState) (told : before.
 
   module _ (st : Store) (now : ℕ) (part : Part) (knows : KnowsSweep st now m part) where
     abbrev Explained : Work → Turn Answer → Type 0
-    Explained work turn = Explains (sweep_ask m) before.counts after.counts s t (SweepingOn m) work turn
+    Explained work turn = Explains (sweep_ask m) (before.counts, s) (after.counts, t) (SweepingOn m) work turn
 
     goes_on : (n : Sweeping) → Stepped who before after m n More → Explained (SweepingOn n) More
     goes_on n steps = record {

@@ -11,7 +11,7 @@ use Rattle.cloud_trait.specs.declared.turn.CkptAnswer.{CkptAnswer}
 use Rattle.cloud_trait.specs.Weather.{Makes}
 use Rattle.db_base.specs.declared.trouble.Trouble.TheVariants as trouble
 use Rattle.recover_run.specs.declared.home.Home.{Home}
-use Rattle.session_facts.specs.Sessions.Calls.{folding_reply}
+use Rattle.session_facts.specs.Sessions.Calls.{calling_of, folding_reply}
 use Rattle.session_facts.specs.Sessions.Explains.{trouble_of_making, Meets, IsShown, Explains}
 use Rattle.session_facts.specs.Sessions.Spent.{IsSpentInTree}
 use Rattle.session_facts.specs.Sessions.Knows.{leases_of, KnowsWork, Sessions, SessionsStand}
@@ -24,7 +24,7 @@ use Rattle.tree_ckpt.specs.Making.{Making, making_ask, MakingLeads}
 module _ (who : Caller) (before after : Seen) (s t : CloudState) (told : before.state ≡ Some s) (told_after : after.state ≡ Some t) (st : Store) (now : ℕ) (home : Home) (m : Making)
     (knows : KnowsMaking st now m) (tells : IsToldBy st s t) where
   abbrev Explained : Work → Turn Answer → Type 0
-  Explained work turn = Explains (making_ask m) before.counts after.counts s t (Folding home m) work turn
+  Explained work turn = Explains (making_ask m) (before.counts, s) (after.counts, t) (Folding home m) work turn
 
   module _ (reply : Reply) (made : Makes who (making_ask m) reply before after) (found : reply ≢ Memory) where
     goes_on : (n : Making) → MakingLeads m reply (Goes n) → Explained (Folding home n) More
@@ -60,7 +60,7 @@ module _ (who : Caller) (before after : Seen) (s t : CloudState) (told : before.
         shown none k other same =
             making_shows who before after s t told told_after (leases_of (Folding home m)) (IsSpentInTree m.tree) reply st now m knows made tells (λ what is. is) (Stops n q) (leads (λ memory. other (sym same ∙ memory))) none k same
 
-  making_explains : (work : Work) (turn : Turn Answer) → (steps : StepsFolding who before after (home, m) work turn) → folding_reply who before after (home, m) work turn steps ≢ Memory
+  making_explains : (work : Work) (turn : Turn Answer) → (steps : StepsFolding who before after (home, m) work turn) → folding_reply (calling_of who before after) (home, m) work turn steps ≢ Memory
       → Explained work turn
   making_explains work More (n, steps, is, less) found = subst (λ (w : Work). Explained w More) (sym is) (goes_on steps.answer steps.made found n steps.took)
   making_explains work (Ended (answer.Done done)) (n, steps, is) found =
@@ -86,7 +86,7 @@ module _ (who : Caller) (before after : Seen) (s t : CloudState) (book : Book) (
   old = (sessions who.session).work
 
   pub folding_explains : (home : Home) (m : Making) → old ≡ Folding home m → HasAll s t → (work : Work) (turn : Turn Answer) → (steps : StepsFolding who before after (home, m) work turn)
-      → folding_reply who before after (home, m) work turn steps ≢ Memory → Explains (making_ask m) before.counts after.counts s t (Folding home m) work turn
+      → folding_reply (calling_of who before after) (home, m) work turn steps ≢ Memory → Explains (making_ask m) (before.counts, s) (after.counts, t) (Folding home m) work turn
   folding_explains home m is grown work turn steps found =
       making_explains who before after s t told told_after (store_of book order s) s.now home m known (told_later book order s t stand.cloud grown) work turn steps found
     where

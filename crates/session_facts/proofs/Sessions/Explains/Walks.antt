@@ -25,7 +25,7 @@ use Rattle.session_facts.specs.Machines.CommitRuns.Stops.{EndsBy}
 use Rattle.session_facts.specs.Machines.CommitRuns.Knows.{KnowsRun}
 use Rattle.session_facts.specs.Machines.Scans.Knows.{KnowsScanning, ScanLeads}
 use Rattle.session_facts.specs.Sessions.Explains.{trouble_in, left_in, trouble_of_commit, trouble_of_answer, Meets, IsShown, left_told, Explains, spent_for}
-use Rattle.session_facts.specs.Sessions.Calls.{commit_reply}
+use Rattle.session_facts.specs.Sessions.Calls.{calling_of, commit_reply}
 use Rattle.session_facts.specs.Sessions.Knows.{leases_of}
 use Rattle.session_facts.specs.Machines.Walks.Knows.{KnowsWalking, WalkLeads}
 use Rattle.session_facts.proofs.Machines.CommitRuns.Explains.{run_shown}
@@ -50,7 +50,7 @@ committed_plain (NotCommitted t) home = refl
 
 module _ (ask : Ask) (c d : Counts) (s t : CloudState) (old new : Work) (before : trouble_in old ≡ None) (behind : trouble_in new ≡ None) where
   -- one that goes on
-  pub goes_explains : left_in new ≡ 0 → Explains ask c d s t old new More
+  pub goes_explains : left_in new ≡ 0 → Explains ask (c, s) (d, t) old new More
   goes_explains none = record {
     shown = λ plain clean k other meets. absurd (on k meets);
     kept = λ k e. absurd (no_trouble (trouble_in old) k before e);
@@ -63,7 +63,7 @@ module _ (ask : Ask) (c d : Counts) (s t : CloudState) (old new : Work) (before 
 
   -- and one that ends: the trouble of its answer is shown
   pub ends_explains : (a : Answer) → left_told new (Ended a) ≡ 0 → ((k : Trouble) → trouble_of_answer a ≡ Some k → k ≢ trouble.Memory → IsShown ask (leases_of old) (spent_for old) (c, s) (d, t) k)
-      → Explains ask c d s t old new (Ended a)
+      → Explains ask (c, s) (d, t) old new (Ended a)
   ends_explains a none shows = record {
     shown = λ plain clean k other meets. on k other meets;
     kept = λ k e. absurd (no_trouble (trouble_in old) k before e);
@@ -83,7 +83,7 @@ module _ (who : Caller) (before after : Seen) (s t : CloudState) (book : Book) (
 
   module _ (home : Home) (w : Walk) (kept : Cache) (known : KnowsWalking st w kept) where
     abbrev Explained : Work → Turn Answer → Type 0
-    Explained work turn = Explains (walk_ask w) before.counts after.counts s t (Reading home w) work turn
+    Explained work turn = Explains (walk_ask w) (before.counts, s) (after.counts, t) (Reading home w) work turn
 
     abbrev ShowsRead : Trouble → Type 0
     ShowsRead k = IsShown (walk_ask w) (leases_of (Reading home w)) (spent_for (Reading home w)) (before.counts, s) (after.counts, t) k
@@ -115,7 +115,7 @@ module _ (who : Caller) (before after : Seen) (s t : CloudState) (book : Book) (
 
   module _ (home : Home) (l : Listing) (kept : Cache) (known : KnowsScanning st l.scan kept) where
     abbrev ScanExplained : Work → Turn Answer → Type 0
-    ScanExplained work turn = Explains (scan_ask l.scan) before.counts after.counts s t (Scanning home l) work turn
+    ScanExplained work turn = Explains (scan_ask l.scan) (before.counts, s) (after.counts, t) (Scanning home l) work turn
 
     abbrev ShowsScan : Trouble → Type 0
     ShowsScan k = IsShown (scan_ask l.scan) (leases_of (Scanning home l)) (spent_for (Scanning home l)) (before.counts, s) (after.counts, t) k
@@ -164,7 +164,7 @@ module _ (who : Caller) (before after : Seen) (s t : CloudState) (book : Book) (
 
   module _ (r : Run) (kept : Cache) (part : Part) (known : s.now ≤ t.now → KnowsRun st t.now (r, kept) part) (sound : IsSoundRun r) where
     abbrev CommitExplained : Work → Turn Answer → Type 0
-    CommitExplained work turn = Explains (run_ask r) before.counts after.counts s t (Committing r) work turn
+    CommitExplained work turn = Explains (run_ask r) (before.counts, s) (after.counts, t) (Committing r) work turn
 
     abbrev ShowsCommit : Trouble → Type 0
     ShowsCommit k = IsShown (run_ask r) (leases_of (Committing r)) (spent_for (Committing r)) (before.counts, s) (after.counts, t) k
@@ -184,7 +184,7 @@ module _ (who : Caller) (before after : Seen) (s t : CloudState) (book : Book) (
 
     -- by a call that found memory
     pub committing_explains : (c : Cache) (work : Work) (turn : Turn Answer) (steps : StepsCommit who before after (r, kept) (work, c) turn)
-        → commit_reply who before after (r, kept) (work, c) turn steps ≢ Memory → CommitExplained work turn
+        → commit_reply (calling_of who before after) (r, kept) (work, c) turn steps ≢ Memory → CommitExplained work turn
     committing_explains c work More (m, steps, work_is, less) some =
         goes_explains (run_ask r) before.counts after.counts s t (Committing r) work refl (ap trouble_in work_is) (ap left_in work_is)
     committing_explains c work (Ended (answer.Commit a)) (m, steps, work_is) some =

@@ -38,7 +38,7 @@ use Rattle.session_facts.proofs.Machines.Runs.Received.{each_in, items_sent, ite
 use Rattle.session_facts.proofs.Machines.Runs.Taken.{run_in, empty_top}
 use Rattle.session_facts.specs.Machines.Runs.Knows.{IsSentItem, TookRun, MayDelete}
 use Rattle.cloud_facts.specs.Book.Telling.{leaf_in, newest_leaf}
-use Rattle.session_facts.specs.Machines.PageCheckpoints.Knows.{HoldsPage, HoldsRight, HasPage, HasRight, HasLeases, MayStopPage, ReadHome, ComesOn, TroubleWaits, KnowsPagingAt, KnowsNext}
+use Rattle.session_facts.specs.Machines.PageCheckpoints.Knows.{right_of, work_of, HoldsPage, HoldsRight, HasPage, HasRight, HasLeases, MayStopPage, ReadHome, ComesOn, TroubleWaits, KnowsPagingAt, KnowsNext}
 use Rattle.session_facts.specs.Machines.PageCheckpoints.Rights.{IsLanded, IsNewestLeaf, ReadLeaf, HasRun, IsDone, AreDone, IsUptoLink, RunLeads, LeavesRight}
 use Rattle.session_facts.proofs.Machines.PageCheckpoints.Chained.{has_run, home_fences}
 use Rattle.session_facts.proofs.Machines.PageCheckpoints.Fences.{HasFences, landed_fences, newest_landed, link_leads, another, upto_next, upto_more, not_visited}
@@ -172,8 +172,8 @@ Shows GettingRight u now p a =
     × ((l : Leaf) → IsNewestLeaf (u.tally.nodes p.tree) p.at.page l → lacked l p.page p.run.items ≡ [] → (x : PuItem) → IsIn p.run.items x → holds l (key_of x.rec.change) ≡ true
     → IsDone u p.tree p.page x)
 Shows PuttingRight u now p a =
-    (has : HasRight p) × (a ≡ Done → ComesOn u now p has.lease × LeavesRight u p.tree p.page p.home p.run p.at p.onward)
-Shows ReleasingRight u now p a = (has : HasRight p) × ComesOn u now p has.lease × LeavesRight u p.tree p.page p.home p.run p.at p.onward × IsCharted u p.tree
+    (has : HasRight p) × (a ≡ Done → ComesOn u now p has.lease × LeavesRight u (work_of p) (right_of p))
+Shows ReleasingRight u now p a = (has : HasRight p) × ComesOn u now p has.lease × LeavesRight u (work_of p) (right_of p) × IsCharted u p.tree
 Shows PuttingHome u now p a = HasPage p × (a ≡ Done → MayDelete u p.tree p.page p.deletions.ids)
 Shows DeletingNext u now p a = HasPage p × MayDelete u p.tree p.page p.deletions.ids
 Shows Releasing u now p a = HasLeases p

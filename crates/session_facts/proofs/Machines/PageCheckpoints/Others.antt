@@ -17,8 +17,8 @@ use Rattle.run_cursor.specs.Run.{Taken}
 use Rattle.session_facts.proofs.Machines.Runs.Marks.{run_stays, delete_stays}
 use Rattle.cloud_facts.specs.Book.Growth.{Grows}
 use Rattle.cloud_facts.specs.Book.Telling.{last_or}
-use Rattle.session_facts.specs.Machines.PageCheckpoints.Knows.{HoldsPage, HoldsRight, HasRight, ComesOn, KnowsPagingAt, KnowsPaging, leases_of_paging}
-use Rattle.session_facts.specs.Machines.PageCheckpoints.Rights.{IsLanded, IsNewestLeaf, ReadLeaf, HasRun, AreDone, IsUptoLink, RunLeads, ComesRight, PutsRight, LeavesRight}
+use Rattle.session_facts.specs.Machines.PageCheckpoints.Knows.{leaf_put, right_of, work_of, HoldsPage, HoldsRight, HasRight, ComesOn, KnowsPagingAt, KnowsPaging, leases_of_paging}
+use Rattle.session_facts.specs.Machines.PageCheckpoints.Rights.{page_work, IsLanded, IsNewestLeaf, ReadLeaf, HasRun, AreDone, IsUptoLink, RunLeads, ComesRight, PutsRight, LeavesRight}
 use Rattle.session_facts.proofs.Machines.Walks.Caches.{in_grown}
 
 -- ---- leases in hand
@@ -78,7 +78,7 @@ read_stays st su now later tree page lease l after grows same k = record {
 }
 
 pub comes_stays : (st su : Store) (now later tree page : ℕ) (lease : Claim) (home : Leaf) (run : Taken) (ids visited : List ℕ) (at : Found) → Grows st su → ReadLeaf su later tree page lease home
-    → ComesRight st now tree page lease home run ids visited at → ComesRight su later tree page lease home run ids visited at
+    → ComesRight st now (page_work tree page home run ids) lease visited at → ComesRight su later (page_work tree page home run ids) lease visited at
 comes_stays st su now later tree page lease home run ids visited at grows read k = record {
   read = read;
   runs = has_run_stays st su tree page home run ids grows k.runs;
@@ -111,8 +111,8 @@ module _ (st su : Store) (now later : ℕ) (p : Paging) (after : now ≤ later) 
   comes_on : (h : HasRight p) → ComesOn st now p h.lease → ComesOn su later p h.lease
   comes_on h k = comes h.lease (in_both p.tree p.page p.at.page p.held h).0 h.lock_is k
 
-  right_stays : (h : HasRight p) → PutsRight st now p.tree p.page h.second p.run p.at p.onward p.applying p.out
-      → PutsRight su later p.tree p.page h.second p.run p.at p.onward p.applying p.out
+  right_stays : (h : HasRight p) → PutsRight st now (work_of p) h.second (right_of p) (leaf_put p)
+      → PutsRight su later (work_of p) h.second (right_of p) (leaf_put p)
   right_stays h k = record {
     leaf = k.leaf;
     read = reads p.at.page h.second k.leaf (in_both p.tree p.page p.at.page p.held h).1 h.second_is k.read;
@@ -122,8 +122,8 @@ module _ (st su : Store) (now later : ℕ) (p : Paging) (after : now ≤ later) 
     applies = k.applies;
   }
 
-  leaves_stays : ((x : PuItem) → IsIn p.run.items x → IsClient x.rec.client) → LeavesRight st p.tree p.page p.home p.run p.at p.onward
-      → LeavesRight su p.tree p.page p.home p.run p.at p.onward
+  leaves_stays : ((x : PuItem) → IsIn p.run.items x → IsClient x.rec.client) → LeavesRight st (work_of p) (right_of p)
+      → LeavesRight su (work_of p) (right_of p)
   leaves_stays clients k = record {
     upto = k.upto;
     leads = leads_stays (st.book.chain p.tree 0) (su.book.chain p.tree 0) stay p.at.low k.upto p.run.items p.onward k.leads;

@@ -47,7 +47,7 @@ use Rattle.cloud_facts.specs.Book.Growth.{Grows}
 use Rattle.cloud_facts.specs.Book.Telling.{leaf_in, queue_of, newest_leaf, newest_root}
 use Rattle.cloud_facts.specs.Tellings.Taking.{IsLinked}
 use Rattle.cloud_facts.proofs.Tellings.Names.{at2_beside}
-use Rattle.session_facts.specs.Machines.PageCheckpoints.Knows.{HasPage, HasRight, MayStopPage, ComesOn, KnowsPagingAt, KnowsPaging, KnowsAfter, paging_note}
+use Rattle.session_facts.specs.Machines.PageCheckpoints.Knows.{leaf_put, right_of, work_of, HasPage, HasRight, MayStopPage, ComesOn, KnowsPagingAt, KnowsPaging, KnowsAfter, paging_note}
 use Rattle.session_facts.specs.Machines.PageCheckpoints.Rights.{IsNewestLeaf, IsDone, AreDone, PutsRight, LeavesRight, PutsHome}
 use Rattle.session_facts.proofs.Machines.PageCheckpoints.Nexts as nexts
 use Rattle.session_facts.proofs.Machines.PageCheckpoints.Others.{paging_later, read_stays, leads_stays, comes_stays}
@@ -205,7 +205,7 @@ module _ (who : Caller) (s t : CloudState) (book : Book) (order : List Entry) (p
         on (inr lands) = landed lands
 
   -- a right page
-  puts_right : (has : HasRight p) (on : ComesOn st t.now p has.lease) → PutsRight st t.now p.tree p.page has.second p.run p.at p.onward p.applying p.out
+  puts_right : (has : HasRight p) (on : ComesOn st t.now p has.lease) → PutsRight st t.now (work_of p) has.second (right_of p) (leaf_put p)
       → By PuttingRight (PutHeld (right_name p) p.out has.lease (Some has.second))
   puts_right has on puts = puts_by PuttingRight p.at.page linked on.runs.from on.runs.took has.lease (Some has.second) (λ never. (has, λ done. absurd (never done))) landed
     where
@@ -251,7 +251,7 @@ module _ (who : Caller) (s t : CloudState) (book : Book) (order : List Entry) (p
                   ∙ and_from (not (bytes_below (key_of x.rec.change) puts.leaf.low)) (below_bound (key_of x.rec.change) puts.leaf.high)
                   (ap not (ap (bytes_below (key_of x.rec.change)) puts.low ∙ low)) below)
 
-          leaves : LeavesRight ru p.tree p.page p.home p.run p.at p.onward
+          leaves : LeavesRight ru (work_of p) (right_of p)
           leaves = record {
             upto = puts.leaf.high;
             leads = leads_stays (book.chain p.tree 0) (ru.book.chain p.tree 0) (right_grows.links p.tree 0) p.at.low puts.leaf.high p.run.items p.onward puts.leads;
@@ -259,7 +259,7 @@ module _ (who : Caller) (s t : CloudState) (book : Book) (order : List Entry) (p
           }
 
   -- the page itself
-  puts_home : (has : HasPage p) → PutsHome st t.now p.tree p.page has.lease p.home p.run p.deletions.ids p.applying p.out → By PuttingHome (PutHeld (home_name p) p.out has.lease None)
+  puts_home : (has : HasPage p) → PutsHome st t.now (work_of p) has.lease (leaf_put p) → By PuttingHome (PutHeld (home_name p) p.out has.lease None)
   puts_home has puts = puts_by PuttingHome p.page puts.runs.linked puts.runs.from puts.runs.took has.lease None (λ never. (has, λ done. absurd (never done))) landed
     where
       landed : Lands who (PutHeld (home_name p) p.out has.lease None) (called who t.now s) t

@@ -14,7 +14,7 @@ use Rattle.page_ckpt.specs.declared.stage.Stage.{Stage}
 use Rattle.page_ckpt.specs.declared.stage.Stage.TheVariants.{TakingHome, GettingHome, Receiving, TakingRight, GettingRight, PuttingRight, ReleasingRight, PuttingHome, Deleting as DeletingNext, Releasing, Finished}
 use Rattle.session_facts.specs.Machines.Runs.Knows.{MayDelete}
 use Rattle.session_facts.specs.Sessions.Spent.{IsOfPaging}
-use Rattle.session_facts.specs.Machines.PageCheckpoints.Rights.{ReadLeaf, ComesRight, PutsRight, LeavesRight, PutsHome}
+use Rattle.session_facts.specs.Machines.PageCheckpoints.Rights.{page_work, LeafPut, RightPage, PageWork, ReadLeaf, ComesRight, PutsRight, LeavesRight, PutsHome}
 
 -- ---- leases
 
@@ -74,9 +74,19 @@ pub record ReadHome (st : Store) (now : ℕ) (p : Paging) : Type 0 where
   pub read : ReadLeaf st now p.tree p.page has.lease p.home
   pub covered : (client : ℕ) → IsClient client → done_number p.home.done p.page client ≤ st.tally.cursor p.tree p.page client
 
+-- the page, the right page at hand, and the leaf that is put
+abbrev pub work_of : Paging → PageWork
+work_of p = page_work p.tree p.page p.home p.run p.deletions.ids
+
+abbrev pub right_of : Paging → RightPage
+right_of p = record { at = p.at; onward = p.onward }
+
+abbrev pub leaf_put : Paging → LeafPut
+leaf_put p = record { applying = p.applying; out = p.out }
+
 -- it is on its way to the right, under the lease of its page
 abbrev pub ComesOn : Store → ℕ → Paging → Claim → Type 0
-ComesOn st now p lease = ComesRight st now p.tree p.page lease p.home p.run p.deletions.ids p.visited p.at
+ComesOn st now p lease = ComesRight st now (work_of p) lease p.visited p.at
 
 -- there is an id to be deleted
 abbrev pub HasIds : Paging → Type 0
@@ -89,9 +99,9 @@ KnowsPagingAt Receiving st now p = ReadHome st now p
 KnowsPagingAt TakingRight st now p = (has : HasPage p) × ComesOn st now p has.lease
 KnowsPagingAt GettingRight st now p = (has : HasRight p) × ComesOn st now p has.lease
 KnowsPagingAt PuttingRight st now p =
-    (has : HasRight p) × ComesOn st now p has.lease × PutsRight st now p.tree p.page has.second p.run p.at p.onward p.applying p.out
-KnowsPagingAt ReleasingRight st now p = (has : HasRight p) × ComesOn st now p has.lease × LeavesRight st p.tree p.page p.home p.run p.at p.onward
-KnowsPagingAt PuttingHome st now p = (has : HasPage p) × PutsHome st now p.tree p.page has.lease p.home p.run p.deletions.ids p.applying p.out
+    (has : HasRight p) × ComesOn st now p has.lease × PutsRight st now (work_of p) has.second (right_of p) (leaf_put p)
+KnowsPagingAt ReleasingRight st now p = (has : HasRight p) × ComesOn st now p has.lease × LeavesRight st (work_of p) (right_of p)
+KnowsPagingAt PuttingHome st now p = (has : HasPage p) × PutsHome st now (work_of p) has.lease (leaf_put p)
 KnowsPagingAt DeletingNext st now p = HasPage p × MayDelete st p.tree p.page p.deletions.ids × HasIds p
 KnowsPagingAt Releasing st now p = HasLeases p
 KnowsPagingAt Finished st now p = ⊥

@@ -48,6 +48,29 @@ abbrev pub AreDone : Store → ℕ → ℕ → List PuItem → Option (List ℕ)
 AreDone st tree queue run from upto =
     (x : PuItem) → IsIn run x → below_bound (key_of x.rec.change) from ≡ false → below_bound (key_of x.rec.change) upto ≡ true → IsDone st tree queue x
 
+-- ---- what it works on
+
+-- a page that is checkpointed: its tree and number, its leaf as it was read, and the run of its queue with the numbers of the messages of that
+pub record PageWork : Type 0 where
+  pub tree : ℕ
+  pub page : ℕ
+  pub home : Leaf
+  pub run : Taken
+  pub ids : List ℕ
+
+abbrev pub page_work : ℕ → ℕ → Leaf → Taken → List ℕ → PageWork
+page_work tree page home run ids = record { tree = tree; page = page; home = home; run = run; ids = ids }
+
+-- the right page at hand, and where the run leads on from it
+pub record RightPage : Type 0 where
+  pub at : Found
+  pub onward : Option Found
+
+-- a leaf that is put: the items that are applied by it, and its bytes
+pub record LeafPut : Type 0 where
+  pub applying : List PuItem
+  pub out : List ℕ
+
 -- ---- to the right
 
 -- a page is that of a link that is not further right than a low key
@@ -65,36 +88,36 @@ RunLeads links low bound run None = (x : PuItem) → IsIn run x → below_bound 
 
 -- It is on its way to the right: the page at hand is that of a link, none that it came to is further right, and the items with keys behind
 -- the home and below the page are applied.
-pub record ComesRight (st : Store) (now tree page : ℕ) (lease : Claim) (home : Leaf) (run : Taken) (ids visited : List ℕ) (at : Found) : Type 0 where
-  pub read : ReadLeaf st now tree page lease home
-  pub runs : HasRun st tree page home run ids
-  pub linked : IsIn (st.book.chain tree 0) (record { low = at.low; page = at.page })
-  pub elsewhere : at.page ≢ page
-  pub home_behind : IsUptoLink (st.book.chain tree 0) at.low page
-  pub behind : (p : ℕ) → IsIn visited p → IsUptoLink (st.book.chain tree 0) at.low p
-  pub applied : AreDone st tree page run.items home.high (Some at.low)
+pub record ComesRight (st : Store) (now : ℕ) (work : PageWork) (lease : Claim) (visited : List ℕ) (at : Found) : Type 0 where
+  pub read : ReadLeaf st now work.tree work.page lease work.home
+  pub runs : HasRun st work.tree work.page work.home work.run work.ids
+  pub linked : IsIn (st.book.chain work.tree 0) (record { low = at.low; page = at.page })
+  pub elsewhere : at.page ≢ work.page
+  pub home_behind : IsUptoLink (st.book.chain work.tree 0) at.low work.page
+  pub behind : (p : ℕ) → IsIn visited p → IsUptoLink (st.book.chain work.tree 0) at.low p
+  pub applied : AreDone st work.tree work.page work.run.items work.home.high (Some at.low)
 
 -- ---- the puts
 
 -- the leaf that is put on a right page is the one that was read there, with the run of the page applied
-pub record PutsRight (st : Store) (now tree page : ℕ) (lease : Claim) (run : Taken) (at : Found) (onward : Option Found) (applying : List PuItem) (out : List ℕ) : Type 0 where
+pub record PutsRight (st : Store) (now : ℕ) (work : PageWork) (lease : Claim) (right : RightPage) (put : LeafPut) : Type 0 where
   pub leaf : Leaf
-  pub read : ReadLeaf st now tree at.page lease leaf
-  pub low : leaf.low ≡ at.low
-  pub leads : RunLeads (st.book.chain tree 0) at.low leaf.high run.items onward
-  pub puts : IsLeaf out (applied leaf page run.items)
-  pub applies : applying ≡ lacked leaf page run.items
+  pub read : ReadLeaf st now work.tree right.at.page lease leaf
+  pub low : leaf.low ≡ right.at.low
+  pub leads : RunLeads (st.book.chain work.tree 0) right.at.low leaf.high work.run.items right.onward
+  pub puts : IsLeaf put.out (applied leaf work.page work.run.items)
+  pub applies : put.applying ≡ lacked leaf work.page work.run.items
 
 -- behind a right page the items up to where a link leads on are applied
-pub record LeavesRight (st : Store) (tree page : ℕ) (home : Leaf) (run : Taken) (at : Found) (onward : Option Found) : Type 0 where
+pub record LeavesRight (st : Store) (work : PageWork) (right : RightPage) : Type 0 where
   pub upto : Option (List ℕ)
-  pub leads : RunLeads (st.book.chain tree 0) at.low upto run.items onward
-  pub applied : AreDone st tree page run.items home.high upto
+  pub leads : RunLeads (st.book.chain work.tree 0) right.at.low upto work.run.items right.onward
+  pub applied : AreDone st work.tree work.page work.run.items work.home.high upto
 
 -- the leaf that is put last is the page's own with the run applied, and the items behind it are applied on the pages on its right
-pub record PutsHome (st : Store) (now tree page : ℕ) (lease : Claim) (home : Leaf) (run : Taken) (ids : List ℕ) (applying : List PuItem) (out : List ℕ) : Type 0 where
-  pub read : ReadLeaf st now tree page lease home
-  pub runs : HasRun st tree page home run ids
-  pub rest : AreDone st tree page run.items home.high None
-  pub puts : IsLeaf out (applied home page run.items)
-  pub applies : applying ≡ lacked home page run.items
+pub record PutsHome (st : Store) (now : ℕ) (work : PageWork) (lease : Claim) (put : LeafPut) : Type 0 where
+  pub read : ReadLeaf st now work.tree work.page lease work.home
+  pub runs : HasRun st work.tree work.page work.home work.run work.ids
+  pub rest : AreDone st work.tree work.page work.run.items work.home.high None
+  pub puts : IsLeaf put.out (applied work.home work.page work.run.items)
+  pub applies : put.applying ≡ lacked work.home work.page work.run.items

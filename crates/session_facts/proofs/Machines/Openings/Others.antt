@@ -10,7 +10,7 @@ use Rattle.db_base.specs.declared.names.Lock.TheVariants as lock
 use Rattle.cloud_facts.specs.Homes.Homes.{Part, Away}
 use Rattle.cloud_facts.specs.Lefts.Left.{IsCopied}
 use Rattle.session_facts.specs.Machines.Openings.Client.{KnowsClient}
-use Rattle.session_facts.specs.Machines.Openings.Knows.{leases_of_recovery, IsCommitted, IsWanted, IsMessageThat, HasRead, Gathers, SendsOn, HasSifted, HasPut, KnowsOpeningAt, KnowsOpening}
+use Rattle.session_facts.specs.Machines.Openings.Knows.{opener_of, opener, leases_of_recovery, IsCommitted, IsWanted, IsMessageThat, HasRead, Gathers, SendsOn, HasSifted, HasPut, KnowsOpeningAt, KnowsOpening}
 use Rattle.session_facts.proofs.Machines.Openings.Kept.{each_in}
 use Rattle.session_facts.proofs.Machines.Openings.Messages.{log_message_stays}
 use Rattle.recover_run.specs.declared.items.AtomicItem.{AtomicItem}
@@ -61,7 +61,8 @@ module _ (st su : Store) (client : ℕ) (passes : Passes st su) where
   committed_passes : (w : Wanted) → IsCommitted st.book.log client w → IsCommitted su.book.log client w
   committed_passes w c = record { of = c.of; logged = log_stays st su c.of passes.grows c.logged; client_is = c.client_is; epoch_is = c.epoch_is; txn_is = c.txn_is }
 
-  abbrev read_passes : (former lease : Option Claim) (w : Wanted) (kept : List AtomicItem) (part : Part) → HasRead st client former lease w kept part → HasRead su client former lease w kept part
+  abbrev read_passes : (former lease : Option Claim) (w : Wanted) (kept : List AtomicItem) (part : Part)
+      → HasRead st (opener client former lease w) kept part → HasRead su (opener client former lease w) kept part
   read_passes former lease w kept part r = record {
     held = r.held;
     before = r.before;
@@ -72,8 +73,8 @@ module _ (st su : Store) (client : ℕ) (passes : Passes st su) where
     rising = r.rising;
   }
 
-  pub gathers_passes : (former lease : Option Claim) (w : Wanted) (head : Head) (kept : List AtomicItem) (part : Part) → Gathers st client former lease w head kept part
-      → Gathers su client former lease w head kept part
+  pub gathers_passes : (former lease : Option Claim) (w : Wanted) (head : Head) (kept : List AtomicItem) (part : Part) → Gathers st (opener client former lease w) head kept part
+      → Gathers su (opener client former lease w) head kept part
   gathers_passes former lease w head kept part g = record { read = read_passes former lease w kept part g.read; head_is = g.head_is }
 
   pub sifted_passes : (w : Wanted) (ids : List ℕ) (g : Gathered) → HasSifted st client w ids g → HasSifted su client w ids g
@@ -90,8 +91,8 @@ module _ (st su : Store) (client : ℕ) (passes : Passes st su) where
       still id (inl has) = inl has
       still id (inr gone) = inr (passes.deleted client id gone)
 
-  pub sends_pass : (former lease : Option Claim) (w : Wanted) (head : Head) (kept : List AtomicItem) (part : Part) (sent : ℕ) → SendsOn st client former lease w head kept part sent
-      → SendsOn su client former lease w head kept part sent
+  pub sends_pass : (former lease : Option Claim) (w : Wanted) (head : Head) (kept : List AtomicItem) (part : Part) (sent : ℕ) → SendsOn st (opener client former lease w) head kept part sent
+      → SendsOn su (opener client former lease w) head kept part sent
   sends_pass former lease w head kept part sent s = record {
     read = read_passes former lease w kept part s.read;
     whole = s.whole;
@@ -132,7 +133,7 @@ home_passes st su now later client lease head attempt part after grows same c = 
 
 pub put_passes : (st su : Store) (now later client : ℕ) (former lease : Option Claim) (w : Wanted) (head : Head) (part : Part) → now ≤ later → Grows st su
     → ((l : Claim) → lease ≡ Some l → l.lock ≡ lock.Client client → Lasts later l → su.tally.head client ≡ st.tally.head client)
-    → HasPut st now client former lease w head part → HasPut su later client former lease w head part
+    → HasPut st now (opener client former lease w) head part → HasPut su later (opener client former lease w) head part
 put_passes st su now later client former lease w head part after grows same k = record {
   held = k.held;
   home = home_passes st su now later client k.held.now head 0 part after grows (same k.held.now k.held.is k.held.lock) k.home;
@@ -177,10 +178,10 @@ opening_lease st now r part k = on r.stage k.at
     away : part ≡ Away → HasLeaseOf (leases_of_recovery r) part
     away e = subst (HasLeaseOf (leases_of_recovery r)) (sym e) tt
 
-    read : HasRead st r.client r.former r.lease r.wanted r.gathered.kept part → HasLeaseOf (leases_of_recovery r) part
+    read : HasRead st (opener_of r) r.gathered.kept part → HasLeaseOf (leases_of_recovery r) part
     read a = subst (HasLeaseOf (leases_of_recovery r)) (sym a.part_is) (lease_in_hand r.former r.lease a.held.now a.held.is, a.held.lock)
 
-    put : HasPut st now r.client r.former r.lease r.wanted r.head part → HasLeaseOf (leases_of_recovery r) part
+    put : HasPut st now (opener_of r) r.head part → HasLeaseOf (leases_of_recovery r) part
     put a =
         subst (HasLeaseOf (leases_of_recovery r)) (sym a.home.at.part_is) (
           subst (IsIn (leases_of_recovery r)) (sym a.home.at.lease_is) (lease_in_hand r.former r.lease a.held.now a.held.is),

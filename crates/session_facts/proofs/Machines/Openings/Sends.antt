@@ -18,7 +18,7 @@ use Rattle.cloud_facts.proofs.Lefts.MessageLemmas.{copy_of_waits}
 use Rattle.log_codec.specs.Pu.{pu_of}
 use Rattle.cloud_facts.proofs.Numbers.Lists.{filter_at, map_there, map_at, get_same}
 use Rattle.cloud_facts.proofs.Numbers.Ways.{is_way, settled_way, open_way, way_epoch}
-use Rattle.session_facts.specs.Machines.Openings.Knows.{IsWanted, SendsOn}
+use Rattle.session_facts.specs.Machines.Openings.Knows.{opener, IsWanted, SendsOn}
 use Rattle.session_facts.proofs.Machines.Openings.Kept.{each_in, index_at}
 use Rattle.recover_run.specs.declared.items.AtomicItem.{AtomicItem}
 use Rattle.recover_run.specs.declared.wanted.Wanted.{Wanted}
@@ -117,7 +117,7 @@ module _ (st : Store) (client : ℕ) (before : Head) (w : Wanted) (kept : List A
 
 -- a kept record is sent behind those of its transaction before it, whatever head is the newest
 pub sent_in_turn : (st : Store) (client : ℕ) (former lease : Option Claim) (w : Wanted) (head : Head) (kept : List AtomicItem) (part : Part) (sent : ℕ) → Leaves st → IsClient client
-    → (k : SendsOn st client former lease w head kept part sent) → (st.tally.head client ≡ k.read.before) ⊎ (k.read.before.epoch < (st.tally.head client).epoch)
+    → (k : SendsOn st (opener client former lease w) head kept part sent) → (st.tally.head client ≡ k.read.before) ⊎ (k.read.before.epoch < (st.tally.head client).epoch)
     → (x : AtomicItem) → StandsAt kept sent x → SendsInTurn st x.rec
 sent_in_turn st client former lease w head kept part sent leaves is k later x there =
     sends_in_turn st x.rec leaves (subst IsClient (sym of_x.client_is) is) (λ way. known (newest way later))
@@ -154,7 +154,7 @@ entries_of kept = map pending_of (map (λ (x : AtomicItem). x.rec) kept)
 
 -- the head of the next epoch lands behind the one that was read, with all that was under way sent on and pending
 pub settles_read : (st : Store) (client : ℕ) (former lease : Option Claim) (w : Wanted) (head : Head) (kept : List AtomicItem) (part : Part) → Leaves st → IsClient client
-    → (k : SendsOn st client former lease w head kept part (length kept)) → st.tally.head client ≡ k.read.before → Settles st client head
+    → (k : SendsOn st (opener client former lease w) head kept part (length kept)) → st.tally.head client ≡ k.read.before → Settles st client head
 settles_read st client former lease w head kept part leaves is k newest = record {
   is_client = is;
   phase = ap (λ (h : Head). h.phase) head_is;

@@ -71,19 +71,32 @@ pub record IsMessageThat (st : Store) (client : ℕ) (test : AtomicRec → Bool)
 abbrev pub opening_with : ℕ → Head → Claim → Opening
 opening_with client read lease = record { client = client; read = read; lease = lease }
 
+-- who opens: the client, the leases in hand, and the records that are wanted of its last transaction
+pub record Opener : Type 0 where
+  pub client : ℕ
+  pub former : Option Claim
+  pub lease : Option Claim
+  pub wanted : Wanted
+
+abbrev pub opener : ℕ → Option Claim → Option Claim → Wanted → Opener
+opener client former lease w = record { client = client; former = former; lease = lease; wanted = w }
+
+abbrev pub opener_of : Recovery → Opener
+opener_of r = opener r.client r.former r.lease r.wanted
+
 -- a head was read under the client's lease; some of the records that it counts are kept, by index
-pub record HasRead (st : Store) (client : ℕ) (former lease : Option Claim) (w : Wanted) (kept : List AtomicItem) (part : Part) : Type 0 where
-  pub held : HasLease client former lease
+pub record HasRead (st : Store) (by : Opener) (kept : List AtomicItem) (part : Part) : Type 0 where
+  pub held : HasLease by.client by.former by.lease
   pub before : Head
-  pub part_is : part ≡ Opens (opening_with client before held.now)
-  pub wanted_is : w ≡ wanted_of before
-  pub committed : 1 ≤ w.count → IsCommitted st.book.log client w
-  pub kept_are : AllByRecursion (IsWanted st client w) kept
+  pub part_is : part ≡ Opens (opening_with by.client before held.now)
+  pub wanted_is : by.wanted ≡ wanted_of before
+  pub committed : 1 ≤ by.wanted.count → IsCommitted st.book.log by.client by.wanted
+  pub kept_are : AllByRecursion (IsWanted st by.client by.wanted) kept
   pub rising : IsRising 1 kept
 
 -- no record was sent on yet
-pub record Gathers (st : Store) (client : ℕ) (former lease : Option Claim) (w : Wanted) (head : Head) (kept : List AtomicItem) (part : Part) : Type 0 where
-  pub read : HasRead st client former lease w kept part
+pub record Gathers (st : Store) (by : Opener) (head : Head) (kept : List AtomicItem) (part : Part) : Type 0 where
+  pub read : HasRead st by kept part
   pub head_is : head ≡ next_head read.before
 
 -- an ATOMIC message that was received; where its record is lost its number is noted
@@ -98,19 +111,19 @@ pub record HasSifted (st : Store) (client : ℕ) (w : Wanted) (ids : List ℕ) (
   pub deleted : (id : ℕ) → has_id g.lost id ≡ true → (has_id ids id ≡ true) ⊎ IsDeleted (st.tally.logged client) id
 
 -- all records are kept that the head counts, and the first so many were sent on: they are pending in the head that is to be put
-pub record SendsOn (st : Store) (client : ℕ) (former lease : Option Claim) (w : Wanted) (head : Head) (kept : List AtomicItem) (part : Part) (sent : ℕ) : Type 0 where
-  pub read : HasRead st client former lease w kept part
-  pub whole : length kept ≡ w.count
+pub record SendsOn (st : Store) (by : Opener) (head : Head) (kept : List AtomicItem) (part : Part) (sent : ℕ) : Type 0 where
+  pub read : HasRead st by kept part
+  pub whole : length kept ≡ by.wanted.count
   pub head_is : head ≡ head_behind read.before (take sent kept)
   pub was_sent : (place : ℕ) (x : AtomicItem) → place < sent → StandsAt kept place x → WasSentOn st.tally x.rec × IsCopied st.tally x.rec
 
 -- ---- behind it
 
 -- the head of the next epoch landed: the client is open, and works on no commit
-pub record HasPut (st : Store) (now client : ℕ) (former lease : Option Claim) (w : Wanted) (head : Head) (part : Part) : Type 0 where
-  pub held : HasLease client former lease
-  pub home : KnowsClient st now client held.now head 0 part
-  pub later : w.epoch < head.epoch
+pub record HasPut (st : Store) (now : ℕ) (by : Opener) (head : Head) (part : Part) : Type 0 where
+  pub held : HasLease by.client by.former by.lease
+  pub home : KnowsClient st now by.client held.now head 0 part
+  pub later : by.wanted.epoch < head.epoch
 
 -- ---- why it stops
 
@@ -137,7 +150,7 @@ MayEnd None = ⊥
 -- ---- by the stage
 
 abbrev pub KnowsGathering : Store → Recovery → Part → Type 0
-KnowsGathering st r part = Gathers st r.client r.former r.lease r.wanted r.head r.gathered.kept part
+KnowsGathering st r part = Gathers st (opener_of r) r.head r.gathered.kept part
 
 abbrev pub KnowsSifted : Store → Recovery → List ℕ → Type 0
 KnowsSifted st r ids = HasSifted st r.client r.wanted ids r.gathered
@@ -147,10 +160,10 @@ abbrev pub KnowsLost : Store → Recovery → Type 0
 KnowsLost st r = AllByRecursion (IsMessageThat st r.client (is_lost r.wanted)) r.ids × (r.gathered.fresh ≡ true)
 
 abbrev pub KnowsSending : Store → Recovery → Part → ℕ → Type 0
-KnowsSending st r part sent = SendsOn st r.client r.former r.lease r.wanted r.head r.gathered.kept part sent
+KnowsSending st r part sent = SendsOn st (opener_of r) r.head r.gathered.kept part sent
 
 abbrev pub KnowsPut : Store → ℕ → Recovery → Part → Type 0
-KnowsPut st now r part = HasPut st now r.client r.former r.lease r.wanted r.head part
+KnowsPut st now r part = HasPut st now (opener_of r) r.head part
 
 -- nothing was read yet
 abbrev pub HasReadNothing : Recovery → Part → Type 0

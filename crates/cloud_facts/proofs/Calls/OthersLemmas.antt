@@ -1,7 +1,7 @@
 -- What is known survives the calls of others.
 use Rattle.std.proofs.Common.{◌≡◌, ◌≤◌, ◌⊎◌, inl, inr, ℕ, zero, List, Option, Some, refl, sym, subst, ◌∙◌, arith}
 use Rattle.cloud_facts.specs.Words.{IsClient, Head, Claim, Store, IsIn}
-use Rattle.cloud_facts.specs.Calls.Acting.{of_option, IsPruned, KnowsHome, Aside}
+use Rattle.cloud_facts.specs.Calls.Acting.{opened_client, of_option, IsPruned, KnowsHome, Aside}
 use Rattle.cloud_facts.specs.Calls.Others.{Others}
 use Rattle.db_base.specs.Change.{key_of}
 use Rattle.head_codec.specs.declared.lists.Pending.{Pending}
@@ -57,7 +57,7 @@ pruned_stays st su client head is grows same k =
 -- ---- homes
 
 pub home_others : (st su : Store) (now later client : ℕ) (lease : Claim) (head : Head) (attempt : ℕ) (part : Part) (mine : List Claim) → now ≤ later → IsIn mine lease
-    → Others mine later st su → KnowsHome st now client lease head attempt part → KnowsHome su later client lease head attempt part
+    → Others mine later st su → KnowsHome st now (opened_client client lease head attempt) part → KnowsHome su later (opened_client client lease head attempt) part
 home_others st su now later client lease head attempt part mine after here o k = record {
   is_client = k.is_client;
   lock_is = k.lock_is;
@@ -73,7 +73,7 @@ home_others st su now later client lease head attempt part mine after here o k =
 }
 
 pub home_aside : (st u : Store) (now later client : ℕ) (lease : Claim) (head : Head) (attempt : ℕ) (before part : Part) (Knows : Store → ℕ → Type 0) → now ≤ later → Grows st u
-    → KnowsHome st now client lease head attempt before → Aside st before Knows u later part → KnowsHome u later client lease head attempt part
+    → KnowsHome st now (opened_client client lease head attempt) before → Aside st before Knows u later part → KnowsHome u later (opened_client client lease head attempt) part
 home_aside st u now later client lease head attempt before part Knows after grows k a = record {
   is_client = k.is_client;
   lock_is = k.lock_is;

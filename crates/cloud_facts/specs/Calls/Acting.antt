@@ -25,20 +25,30 @@ pub record IsPruned (t : Tally) (client : ℕ) (whole pruned : Head) : Type 0 wh
   pub kept : (p : Pending) → IsIn whole.pending p → IsIn pruned.pending p ⊎ IsAppliedEntry t client p
   pub from : (p : Pending) → IsIn pruned.pending p → IsIn whole.pending p
 
--- an open client that works on no commit: its head is settled, and but for pruned entries the newest while its lease lasts, and its part is
+-- an open client that works on no commit: its number, its lease, its head, and the last number that a commit took
+pub record OpenClient : Type 0 where
+  pub client : ℕ
+  pub lease : Claim
+  pub head : Head
+  pub attempt : ℕ
+
+abbrev pub opened_client : ℕ → Claim → Head → ℕ → OpenClient
+opened_client client lease head attempt = record { client = client; lease = lease; head = head; attempt = attempt }
+
+-- what is known of one: its head is settled, and but for pruned entries the newest while its lease lasts, and its part is
 -- at home
-pub record KnowsHome (st : Store) (now client : ℕ) (lease : Claim) (head : Head) (attempt : ℕ) (part : Part) : Type 0 where
-  pub is_client : IsClient client
-  pub lock_is : lease.lock ≡ lock.Client client
-  pub within : head.txn ≤ attempt
-  pub settled : head.phase ≡ Settled
-  pub newest : Lasts now lease → IsPruned st.tally client (st.tally.head client) head
+pub record KnowsHome (st : Store) (now : ℕ) (of : OpenClient) (part : Part) : Type 0 where
+  pub is_client : IsClient of.client
+  pub lock_is : of.lease.lock ≡ lock.Client of.client
+  pub within : of.head.txn ≤ of.attempt
+  pub settled : of.head.phase ≡ Settled
+  pub newest : Lasts now of.lease → IsPruned st.tally of.client (st.tally.head of.client) of.head
   pub home : Home
   pub part_is : part ≡ AtHome home
-  pub client_is : home.client ≡ client
-  pub lease_is : home.lease ≡ lease
-  pub epoch_is : home.epoch ≡ head.epoch
-  pub begun : home.attempt ≤ attempt
+  pub client_is : home.client ≡ of.client
+  pub lease_is : home.lease ≡ of.lease
+  pub epoch_is : home.epoch ≡ of.head.epoch
+  pub begun : home.attempt ≤ of.attempt
 
 -- the leases in hand of one that may have none
 abbrev pub of_option : Option Claim → List Claim

@@ -5,6 +5,7 @@ use Rattle.client_work.specs.declared.op.Op.{Op}
 use Rattle.client_work.specs.declared.op.Op.TheVariants as op
 use Rattle.client_work.specs.declared.work.Work.{Work}
 use Rattle.client_work.specs.declared.work.Work.TheVariants.{Closed, Idle, Opening, Committing, Reading, Scanning, Looking, Folding, Paging, Closing, Renewing, Settling, Sweeping, Broken}
+use Rattle.cloud_facts.specs.Calls.Acting.{opened_client}
 use Rattle.cloud_facts.specs.Calls.Looks.{audit_of}
 use Rattle.cloud_facts.specs.Words.{IsClient, IsTree, Entry, CloudState, newest, Claim, Book, Store, at, store_of, StandsUnder}
 use Rattle.cloud_trait.specs.Growth.{BeginsWith}
@@ -48,7 +49,7 @@ leases_of (Broken l) = l ∷ []
 
 -- an open client that works on no commit
 abbrev pub IsHome : Store → ℕ → Home → Part → Type 0
-IsHome st now home part = KnowsClient st now home.client home.lease home.head home.attempt part
+IsHome st now home part = KnowsClient st now (opened_client home.client home.lease home.head home.attempt) part
 
 -- what a session knows of a store at a moment, by what it has in hand beside its cache, and by its part
 abbrev pub KnowsWork : Store → ℕ → Cache → Work → Part → Type 0

@@ -1,6 +1,6 @@
 -- What a walk used prunes the head of a commit by entries that are applied.
 use Rattle.std.proofs.Common.{◌≡◌, ℕ, Option, Some, None, refl, sym, subst, ◌∙◌, arith}
-use Rattle.cloud_facts.specs.Calls.Acting.{IsPruned, KnowsHome}
+use Rattle.cloud_facts.specs.Calls.Acting.{opened_client, IsPruned, KnowsHome}
 use Rattle.cloud_facts.proofs.Calls.OthersLemmas.{pruned_again}
 use Rattle.cloud_facts.specs.Words.{IsTree, ObjName, Head, Leaf, Tree, Lasts, Store, IsIn}
 use Rattle.session_facts.specs.Machines.Openings.Client.{AreOfRecords, AreCounted}
@@ -43,7 +43,7 @@ module _ (st : Store) (now : ℕ) (h : Holds st) (part : Part) (d : Draft) (k : 
     plan = k.plan;
   }
     where
-      home : KnowsHome st now d.writes.home.client d.writes.home.lease head k.taken.before part
+      home : KnowsHome st now (opened_client d.writes.home.client d.writes.home.lease head k.taken.before) part
       home = record {
         is_client = k.taken.home.at.is_client;
         lock_is = k.taken.home.at.lock_is;

@@ -1,6 +1,6 @@
 -- A commit begins to write.
 use Rattle.std.proofs.Common.{◌≡◌, ◌≤◌, ℕ, List, [], length, refl, sym, subst, ◌∙◌, arith}
-use Rattle.cloud_facts.specs.Calls.Acting.{KnowsHome}
+use Rattle.cloud_facts.specs.Calls.Acting.{opened_client, KnowsHome}
 use Rattle.session_facts.specs.Machines.Openings.Client.{KnowsClient}
 use Rattle.cloud_facts.specs.Words.{AtomicRec, Lasts, Store, at, IsIn}
 use Rattle.session_facts.specs.Machines.Commits.Knows.{MayCommit, AreLeavesFor, attempt_of, IsOfAttempt, Routes, KnowsTaken, KnowsNext, ReachesPart}
@@ -16,7 +16,7 @@ use Rattle.cloud_facts.proofs.Book.Places.{in_none}
 
 -- the home of a session that works on no commit
 abbrev pub KnowsHeld : Store → ℕ → Held → Part → Type 0
-KnowsHeld st now home part = KnowsClient st now home.client home.lease home.head home.attempt part
+KnowsHeld st now home part = KnowsClient st now (opened_client home.client home.lease home.head home.attempt) part
 
 -- with the number that was taken, it is left so where nothing is written
 pub taken_left : (st : Store) (now : ℕ) (home : Held) (part : Part) → KnowsTaken st now home part → KnowsHeld st now home part
@@ -39,13 +39,13 @@ taken_left st now home part t = record {
   counted = t.home.counted;
 }
   where
-    k : KnowsHome st now home.client home.lease home.head t.before part
+    k : KnowsHome st now (opened_client home.client home.lease home.head t.before) part
     k = t.home.at
 
 module _ (st : Store) (now : ℕ) (parts : Parts) (session : ℕ) (w : Writing) (pages : List ℕ) (t : KnowsTaken st now w.home (parts session)) (may : MayCommit w.changes)
     (some : 1 ≤ length w.changes) (none : w.ids ≡ []) (paged : length w.changes ≤ length pages) (leaves : Lasts now w.home.lease → AreLeavesFor st.book w.changes pages)
     (homes : HomesHold st.tally now parts) (left : Leaves st) where
-  abbrev k : KnowsHome st now w.home.client w.home.lease w.home.head t.before (parts session)
+  abbrev k : KnowsHome st now (opened_client w.home.client w.home.lease w.home.head t.before) (parts session)
   k = t.home.at
 
   abbrev recs : List AtomicRec

@@ -1,6 +1,6 @@
 -- What a commit knows where an answer leads.
 use Rattle.std.proofs.Common.{◌≡◌, ◌≤◌, ◌+◌, ℕ, List, Ok, Err, refl, sym, ap, subst, ◌∙◌, arith}
-use Rattle.cloud_facts.specs.Calls.Acting.{IsPruned}
+use Rattle.cloud_facts.specs.Calls.Acting.{opened_client, IsPruned}
 use Rattle.session_facts.specs.Machines.Openings.Client.{AreOfTrees, AreOfRecords, AreCounted, KnowsClient}
 use Rattle.cloud_facts.proofs.Calls.OthersLemmas.{pruned_itself}
 use Rattle.cloud_facts.specs.Words.{IsClient, Answer, CommitAnswer, Head, Lasts, Next, Goes, Ends, Stops, Store, at, sent_of, done_of}
@@ -75,7 +75,7 @@ stands_of st now w part k = record { client = k.client; lock = k.lock; changes_m
 -- a settled head of the epoch is left
 pub knows_home : (u : Store) (now : ℕ) (x : Attempt) (changes : List Noted) (part : Part) (g : Home) (head : Head) → Stands x changes part g → head.epoch ≡ x.epoch → head.txn ≤ x.txn
     → head.phase ≡ phase.Settled → (Lasts now x.lease → IsPruned u.tally x.client (u.tally.head x.client) head) → AreOfTrees head.pending
-    → AreOfRecords u.book.log x.client head.pending → AreCounted u.book.log x.client head.counters → KnowsClient u now x.client x.lease head x.txn part
+    → AreOfRecords u.book.log x.client head.pending → AreCounted u.book.log x.client head.counters → KnowsClient u now (opened_client x.client x.lease head x.txn) part
 knows_home u now x changes part g head stands epoch within settled newest trees of_records counted = record {
   at = record {
     is_client = stands.client;
@@ -104,7 +104,7 @@ module _ (u : Store) (now : ℕ) (part : Part) where
 
   -- a home that nothing was committed from
   abbrev pub IsLeft : Writing → Head → Type 0
-  IsLeft w head = KnowsClient u now w.home.client w.home.lease head w.home.attempt part
+  IsLeft w head = KnowsClient u now (opened_client w.home.client w.home.lease head w.home.attempt) part
 
   -- what is known behind the call of each stage, by what it answered
   abbrev pub Behind : Stage → Writing → Home → Answer → Type 0

@@ -2,6 +2,7 @@
 use Rattle.std.proofs.Common.{◌≡◌, ◌+◌, ◌⊎◌, inl, inr, ℕ, suc, List, [], ◌∷◌, ◌++◌, length, take, Some, Ok, refl, sym, ap, subst, ◌∙◌, arith}
 use Rattle.std.specs.Prelude.{slice_get}
 use Rattle.session_facts.specs.Machines.Openings.Client.{KnowsClient}
+use Rattle.cloud_facts.specs.Calls.Acting.{opened_client}
 use Rattle.cloud_facts.specs.Words.{QueueName, Entry, AtomicRec, Answer, Posted, CloudState, called, Caller, Send, sent_of, Book, Store, at, IsIn, store_of, IsCall}
 use Rattle.cloud_facts.proofs.Calls.Calls.{send_cases}
 use Rattle.cloud_facts.proofs.Calls.Outcomes.{stays, other_landed}
@@ -123,7 +124,7 @@ module _ (who : Caller) (book : Book) (order : List Entry) (s t : CloudState) (p
   logging_outcome = on (send_cases who (Atomic client) w.out reply s t call)
     where
       left : (u : Store) (p : Part) (h : Home) → Stands (attempt_of w) w.changes p h → Routes u t.now (attempt_of w) w.changes w.records w.home.head
-          → KnowsClient u t.now client w.home.lease w.home.head w.home.attempt p
+          → KnowsClient u t.now (opened_client client w.home.lease w.home.head w.home.attempt) p
       left u p h stands routes = knows_home u t.now (attempt_of w) w.changes p h w.home.head stands refl (let e = routes.later in omega (arith, e)) routes.settled routes.newest routes.trees routes.of_records routes.counted
 
       -- the records are routed as before

@@ -3,7 +3,7 @@ use Rattle.std.proofs.Common.{◌≡◌, ◌+◌, ◌<◌, ◌≤◌, ◌⊎◌,
 use Rattle.std.specs.Prelude.{slice_get}
 use Rattle.std.specs.List.{AllByRecursion}
 use Rattle.std.proofs.lemmas.List.{append-nil}
-use Rattle.cloud_facts.specs.Calls.Acting.{IsPruned, KnowsHome, Setting, Outcome}
+use Rattle.cloud_facts.specs.Calls.Acting.{opened_client, IsPruned, KnowsHome, Setting, Outcome}
 use Rattle.cloud_facts.specs.Words.{IsClient, Entry, AtomicRec, Head, Answer, CloudState, called, Caller, Lasts, Ask, PutHeld, Send, Delete, done_of, sent_of, Book, Store, at, IsIn, store_of, IsCall}
 use Rattle.cloud_facts.specs.Calls.Looks.{audit_of}
 use Rattle.cloud_facts.specs.Calls.Others.{Passes, WasSentOn}
@@ -232,7 +232,7 @@ module _ (who : Caller) (book : Book) (order : List Entry) (s t : CloudState) (p
           (setting.alone k.read.held.now r.client (lease_in_hand r.former r.lease k.read.held.now k.read.held.is) k.read.held.lock lasts)
           (setting.cloud.holds.leaves.logged r.client is).early setting.homes
 
-      home_at : KnowsHome put_store t.now r.client k.read.held.now r.head 0 (AtHome new)
+      home_at : KnowsHome put_store t.now (opened_client r.client k.read.held.now r.head 0) (AtHome new)
       home_at = record {
         is_client = is;
         lock_is = k.read.held.lock;

@@ -1,7 +1,7 @@
 -- What an opening knows survives the calls of others.
 use Rattle.std.proofs.Common.{◌≡◌, ◌≤◌, ◌⊎◌, inl, inr, ℕ, List, [], ◌++◌, Bool, true, Option, Some, sym, ap, subst, ◌∙◌, arith}
 use Rattle.std.specs.List.{AllByRecursion}
-use Rattle.cloud_facts.specs.Calls.Acting.{KnowsHome, HasLeaseOf, of_option}
+use Rattle.cloud_facts.specs.Calls.Acting.{opened_client, KnowsHome, HasLeaseOf, of_option}
 use Rattle.cloud_facts.specs.Calls.Others.{Others, Passes, WasSentOn}
 use Rattle.cloud_facts.proofs.Calls.Copies.{copied_stays, log_stays}
 use Rattle.cloud_facts.proofs.Calls.OthersLemmas.{in_option, pruned_stays}
@@ -108,7 +108,7 @@ module _ (st su : Store) (client : ℕ) (passes : Passes st su) where
 
 -- what an open client knows, where its newest head stays while its lease lasts
 pub home_passes : (st su : Store) (now later client : ℕ) (lease : Claim) (head : Head) (attempt : ℕ) (part : Part) → now ≤ later → Grows st su
-    → (Lasts later lease → su.tally.head client ≡ st.tally.head client) → KnowsClient st now client lease head attempt part → KnowsClient su later client lease head attempt part
+    → (Lasts later lease → su.tally.head client ≡ st.tally.head client) → KnowsClient st now (opened_client client lease head attempt) part → KnowsClient su later (opened_client client lease head attempt) part
 home_passes st su now later client lease head attempt part after grows same c = record {
   at = record {
     is_client = k.is_client;
@@ -128,7 +128,7 @@ home_passes st su now later client lease head attempt part after grows same c = 
   counted = counted_stay st su client head.counters grows c.counted;
 }
   where
-    k : KnowsHome st now client lease head attempt part
+    k : KnowsHome st now (opened_client client lease head attempt) part
     k = c.at
 
 pub put_passes : (st su : Store) (now later client : ℕ) (former lease : Option Claim) (w : Wanted) (head : Head) (part : Part) → now ≤ later → Grows st su

@@ -6,7 +6,7 @@ use Rattle.client_work.specs.declared.answer.Answer.{Answer}
 use Rattle.client_work.specs.declared.answer.Answer.TheVariants as answer
 use Rattle.client_work.specs.declared.work.Work.{Work}
 use Rattle.client_work.specs.declared.work.Work.TheVariants.{Closed, Idle, Closing, Renewing, Broken}
-use Rattle.cloud_facts.specs.Calls.Acting.{KnowsHome, Setting, Outcome, Handles}
+use Rattle.cloud_facts.specs.Calls.Acting.{opened_client, KnowsHome, Setting, Outcome, Handles}
 use Rattle.cloud_facts.specs.Words.{Trouble, Entry, Answer as Reply, Turn, More, Ended, Stopped, CloudState, called, Caller, Seen, Claim, Lasts, Ask, Renew, Release, Book, Store, at, IsIn, store_of, IsCall}
 use Rattle.cloud_facts.proofs.Calls.Calls.{call_of, permitted}
 use Rattle.cloud_facts.proofs.Calls.Outcomes.{quiet, gives_up}
@@ -112,7 +112,7 @@ module _ (who : Caller) (before after : Seen) (book : Book) (order : List Entry)
     setting : Setting book order s t.now parts who.session (home.lease ∷ [])
     setting = set call.later
 
-    knows : KnowsHome st t.now home.client home.lease home.head home.attempt (parts who.session)
+    knows : KnowsHome st t.now (opened_client home.client home.lease home.head home.attempt) (parts who.session)
     knows = (knows_at call.later).at
 
     both : RenewsBoth who 600 home.lease new.lease (called who t.now s) t

@@ -1,6 +1,6 @@
 -- What a commit knows of the cloud at each of its calls.
 use Rattle.std.specs.Prelude.{ℕ, ◌≡◌, ◌+◌, ◌<◌, ◌≤◌, ◌⊎◌, List, [], length, take, IsTrue}
-use Rattle.cloud_facts.specs.Calls.Acting.{IsPruned}
+use Rattle.cloud_facts.specs.Calls.Acting.{opened_client, IsPruned}
 use Rattle.cloud_facts.specs.Calls.Others.{WasSentOn}
 use Rattle.cloud_facts.specs.Words.{IsClient, IsTree, CommitAnswer, AtomicRec, Head, Claim, Lasts, Next, Goes, Ends, Stops, Book, Store, at, IsIn, StandsAt}
 use Rattle.commit_writes.specs.declared.stage.Stage.{Stage}
@@ -86,7 +86,7 @@ pub record Routes (st : Store) (now : ℕ) (x : Attempt) (changes : List Noted) 
 pub record KnowsTaken (st : Store) (now : ℕ) (held : Held) (part : Part) : Type 0 where
   pub before : ℕ
   pub taken : held.attempt ≡ before + 1
-  pub home : KnowsClient st now held.client held.lease held.head before part
+  pub home : KnowsClient st now (opened_client held.client held.lease held.head before) part
 
 -- a home has sent these records of its last transaction to the ATOMIC queue, and needs them there
 pub record HasSent (g : Home) (records : List AtomicRec) : Type 0 where
@@ -200,8 +200,8 @@ pub record KnowsCommit (st : Store) (now : ℕ) (w : Writing) (part : Part) : Ty
 
 -- what is known of the home that a commit leaves; where the commit may stand open the home is given up
 abbrev pub KnowsEnd : Store → ℕ → Held → CommitAnswer → Part → Type 0
-KnowsEnd st now home (Committed txn) part = KnowsClient st now home.client home.lease home.head home.attempt part
-KnowsEnd st now home (NotCommitted t) part = KnowsClient st now home.client home.lease home.head home.attempt part
+KnowsEnd st now home (Committed txn) part = KnowsClient st now (opened_client home.client home.lease home.head home.attempt) part
+KnowsEnd st now home (NotCommitted t) part = KnowsClient st now (opened_client home.client home.lease home.head home.attempt) part
 KnowsEnd st now home InDoubt part = part ≡ Away
 KnowsEnd st now home (CommittedOpen t) part = part ≡ Away
 

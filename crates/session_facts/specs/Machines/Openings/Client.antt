@@ -1,8 +1,8 @@
 -- What an open client that works on no commit knows.
 use Rattle.std.specs.Prelude.{ℕ, ◌≡◌, ◌≤◌, List}
-use Rattle.cloud_facts.specs.Words.{IsTree, AtomicRec, Head, Claim, Store, IsIn}
+use Rattle.cloud_facts.specs.Words.{IsTree, AtomicRec, Store, IsIn}
 use Rattle.cloud_facts.specs.Book.Records.{count_of}
-use Rattle.cloud_facts.specs.Calls.Acting.{KnowsHome}
+use Rattle.cloud_facts.specs.Calls.Acting.{OpenClient, KnowsHome}
 use Rattle.cloud_facts.specs.Homes.Homes.{Part}
 use Rattle.cloud_facts.specs.Pendings.Pending.{IsOwn}
 use Rattle.head_codec.specs.declared.lists.Pending.{Pending}
@@ -24,8 +24,8 @@ AreCounted log client counters = (tree page : ℕ) → number_of_queue counters 
 
 -- its home, and that the pending entries of its head are of trees and of its committed records, and its counters at most their counts, whether its lease
 -- lasts or not
-pub record KnowsClient (st : Store) (now client : ℕ) (lease : Claim) (head : Head) (attempt : ℕ) (part : Part) : Type 0 where
-  pub at : KnowsHome st now client lease head attempt part
-  pub trees : AreOfTrees head.pending
-  pub of_records : AreOfRecords st.book.log client head.pending
-  pub counted : AreCounted st.book.log client head.counters
+pub record KnowsClient (st : Store) (now : ℕ) (of : OpenClient) (part : Part) : Type 0 where
+  pub at : KnowsHome st now of part
+  pub trees : AreOfTrees of.head.pending
+  pub of_records : AreOfRecords st.book.log of.client of.head.pending
+  pub counted : AreCounted st.book.log of.client of.head.counters

@@ -1,7 +1,7 @@
 -- What an opening or a recovery knows of a cloud at each of its calls.
 use Rattle.std.specs.Prelude.{ℕ, ◌≡◌, ◌⊎◌, ◌<◌, ◌≤◌, Bool, true, List, [], ◌∷◌, ◌++◌, length, take, Option, Some, None, Result, Ok, Err}
 use Rattle.std.specs.List.{AllByRecursion}
-use Rattle.cloud_facts.specs.Calls.Acting.{of_option}
+use Rattle.cloud_facts.specs.Calls.Acting.{opened_client, of_option}
 use Rattle.cloud_facts.specs.Calls.Others.{WasSentOn}
 use Rattle.cloud_facts.specs.Words.{IsClient, Trouble, AtomicRec, Head, Claim, Goes, Ends, Stops, Store, IsIn, StandsAt}
 use Rattle.db_base.specs.declared.names.Lock.TheVariants as lock
@@ -122,7 +122,7 @@ pub record SendsOn (st : Store) (by : Opener) (head : Head) (kept : List AtomicI
 -- the head of the next epoch landed: the client is open, and works on no commit
 pub record HasPut (st : Store) (now : ℕ) (by : Opener) (head : Head) (part : Part) : Type 0 where
   pub held : HasLease by.client by.former by.lease
-  pub home : KnowsClient st now by.client held.now head 0 part
+  pub home : KnowsClient st now (opened_client by.client held.now head 0) part
   pub later : by.wanted.epoch < head.epoch
 
 -- ---- why it stops
@@ -189,7 +189,7 @@ pub record KnowsOpening (st : Store) (now : ℕ) (r : Recovery) (part : Part) : 
 -- ---- where an answer leads
 
 abbrev pub KnowsEnd : Option Home → Store → ℕ → Part → Type 0
-KnowsEnd (Some h) st now part = KnowsClient st now h.client h.lease h.head h.attempt part
+KnowsEnd (Some h) st now part = KnowsClient st now (opened_client h.client h.lease h.head h.attempt) part
 KnowsEnd None st now part = part ≡ Away
 
 abbrev pub KnowsNext : Step → Store → ℕ → Part → Type 0

@@ -23,7 +23,7 @@ use Rattle.session_facts.proofs.Sessions.Laws.{buffer_keeps, crash_keeps, rest_k
 use Rattle.session_facts.proofs.Lines.Outcome.{MadeCall, made_call}
 use Rattle.session_facts.specs.Machines.Commits.Knows.{MayCommit}
 use Rattle.session_facts.specs.Lines.Facts.{session_at, SettlerRests}
-use Rattle.session_facts.specs.Sessions.Knows.{Sessions, SessionsStand, Goes as SessionGoes, IsRightOp}
+use Rattle.session_facts.specs.Sessions.Knows.{ground, Sessions, SessionsStand, Goes as SessionGoes, IsRightOp}
 use Rattle.txn_buffer.specs.Noted.{Noted}
 use Rattle.replay_meaning.specs.Standing.{session_of}
 use Rattle.ckpt_policy.specs.declared.role.Role.{Role}
@@ -237,7 +237,7 @@ step_on who wish before after old new turn on p =
     left : Leaves who made.ask made.answer (counted p.under.counts s) p.to.counts p.to.state
     left = made.made.state s told
 
-    goes : SessionGoes on.book on.order s left.after f who.session p.session.after
+    goes : SessionGoes (ground on.book on.order s f) left.after who.session p.session.after
     goes =
         session_keeps who p.under p.to s left.after on.book on.order f p.session.after (Ok turn) told left.told
         (rest_keeps on.book on.order on.state s f refl refl refl refl (omega arith) on.stand) steps

@@ -23,7 +23,7 @@ use Rattle.session_facts.proofs.Machines.Sweeps.Calls.{SweepsFrom, leaves_remain
 use Rattle.session_facts.proofs.Machines.Sweeps.Same.{tells_same}
 use Rattle.session_facts.specs.Lines.Errands.{sweeps, session_for}
 use Rattle.session_facts.specs.Lines.Facts.{session_at, SomeBookStands}
-use Rattle.session_facts.specs.Sessions.Knows.{Sessions, SessionsStand, KnowsWork, Goes as SessionGoes}
+use Rattle.session_facts.specs.Sessions.Knows.{ground, Sessions, SessionsStand, KnowsWork, Goes as SessionGoes}
 use Rattle.session_facts.specs.Machines.Sweeps.Remains.{Remains, AreJustReached}
 use Rattle.session_facts.specs.Machines.Sweeps.Knows.{KnowsSweep}
 use Rattle.world_audit.specs.Look.{Looked}
@@ -138,7 +138,7 @@ module _ (begun : CloudState) (tree n : ℕ) (before : Seen) (old : World) (on :
       call_left : IsLeftOf begun tree to Any
       call_left = record { state = left.after; told = left.told; remains = remains; is = tt }
 
-      goes : SessionGoes on.book on.order s left.after f 0 a
+      goes : SessionGoes (ground on.book on.order s f) left.after 0 a
       goes = session_keeps (settler n) under to s left.after on.book on.order f a (Ok turn) told_under left.told stand steps
 
     -- one that goes on

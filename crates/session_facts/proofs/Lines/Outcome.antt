@@ -30,7 +30,7 @@ use Rattle.replay_meaning.specs.Kinds.{IsOfKind, OpensOnce}
 use Rattle.cloud_facts.specs.Book.Records.{entries_of}
 use Rattle.session_facts.specs.Sessions.Audited.{audited}
 use Rattle.session_facts.specs.Sessions.HeadPuts.{IsSoundWork}
-use Rattle.session_facts.specs.Sessions.Knows.{Sessions, Goes}
+use Rattle.session_facts.specs.Sessions.Knows.{ground, Sessions, Goes}
 use Rattle.session_facts.proofs.Sessions.Outcome.{session_keeps}
 use Rattle.session_facts.proofs.Sessions.HeadPuts.{head_put}
 use Rattle.session_facts.proofs.Sessions.Laws.{rest_keeps, decodes}
@@ -179,7 +179,7 @@ call_leaves n lines who before after x sessions new turn a b blind blind_after e
     l : Leaves who call.ask call.answer (counted before.counts x) after.counts after.state
     l = call.made.state x told
 
-    goes : Goes h.book h.order x l.after sessions who.session new
+    goes : Goes (ground h.book h.order x sessions) l.after who.session new
     goes = session_keeps who before after x l.after h.book h.order sessions new (Ok turn) told l.told h.stand p
 
     b0 : CloudState

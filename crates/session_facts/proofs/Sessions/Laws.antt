@@ -29,7 +29,7 @@ use Rattle.cloud_facts.proofs.Leases.GuardLemmas.{call_is_allowed, lasting_apart
 use Rattle.cloud_facts.proofs.Leases.LeaseLemmas.{leaves_keep, fewer_keeps, later_keeps}
 use Rattle.cloud_facts.specs.Numbers.Numbers.{Numbers}
 use Rattle.session_facts.specs.Sessions.Audited.{noted_at, noted_in_hand}
-use Rattle.session_facts.specs.Sessions.Knows.{leases_of, KnowsWork, Knows, Sessions, hands_of, SessionsStand, Goes}
+use Rattle.session_facts.specs.Sessions.Knows.{ground, leases_of, KnowsWork, Knows, Sessions, hands_of, SessionsStand, Goes}
 use Rattle.session_facts.proofs.Sessions.Kept.{KnowsBoth}
 use Rattle.session_facts.proofs.Sessions.Others.{knows_others, knows_later, part_lease}
 use Rattle.cloud_facts.specs.Book.Book.{empty_book}
@@ -157,7 +157,7 @@ pub call_goes : (who : Caller) (s t : CloudState) (book : Book) (order : List En
     → Handles who s t ask reply (leases_of (sessions who.session).work) (leases_of new.work)
     → Outcome who book order s t stand.parts (hands_of sessions who.session) ask (noted_at (sessions who.session).work ask)
     (KnowsBoth new.cache new.work)
-    → Goes book order s t sessions who.session new
+    → Goes (ground book order s sessions) t who.session new
 call_goes who s t book order sessions new ask reply stand may call asks h o = record {
   book_after = o.book_after;
   order_after = o.order_after;

@@ -29,7 +29,7 @@ use Rattle.session_facts.specs.Machines.PageCheckpoints.Knows.{paging_note}
 use Rattle.range_scan.specs.Scan.{scan_ask}
 use Rattle.recover_run.specs.Recovery.{recovery_ask}
 use Rattle.session_facts.specs.Sessions.Audited.{noted_head, noted_at, noted_in_hand, audited}
-use Rattle.session_facts.specs.Sessions.Knows.{leases_of, KnowsWork, KnowsKept, Sessions, SessionsStand, Goes}
+use Rattle.session_facts.specs.Sessions.Knows.{ground, leases_of, KnowsWork, KnowsKept, Sessions, SessionsStand, Goes}
 use Rattle.session_facts.proofs.Sessions.Steps.Commits.{commit_step, run_noted}
 use Rattle.session_facts.proofs.Sessions.Steps.TreeCheckpoints.{making_step, making_noted}
 use Rattle.session_facts.proofs.Sessions.Kept.{KnowsBoth, both_shown}
@@ -97,7 +97,7 @@ renoted who book order s t parts mine ask note other K same o = record {
 
 -- a session that is not at work has no call
 idle_goes : (s t : CloudState) (book : Book) (order : List Entry) (sessions : Sessions) (session : ℕ) (new : Acting) → t ≡ s → new ≡ sessions session → SessionsStand book order s sessions
-    → Goes book order s t sessions session new
+    → Goes (ground book order s sessions) t session new
 idle_goes s t book order sessions session new same as_was stand = record {
   book_after = book;
   order_after = order;
@@ -125,7 +125,7 @@ module _ (who : Caller) (before after : Seen) (s t : CloudState) (book : Book) (
 
   -- a step of what is at work, as it is said of all sessions
   goes_by : (ask : Ask) (note : Audited → Audited) (c : Cache) → ask_of_work old ≡ Some ask → note (audit_of book order) ≡ noted_at old ask (audit_of book order)
-      → new.cache ≡ shown_behind new.work c → IsStepOf who book order s t stand.parts ask note old new.work c → Goes book order s t sessions who.session new
+      → new.cache ≡ shown_behind new.work c → IsStepOf who book order s t stand.parts ask note old new.work c → Goes (ground book order s sessions) t who.session new
   goes_by ask note c asks same shown step =
       call_goes who s t book order sessions new ask step.reply stand may step.call asks step.handles
       (subst (λ (k : Cache). Outcome who book order s t stand.parts (leases_of old) ask (noted_at old ask) (KnowsBoth k new.work)) (sym shown)
@@ -159,7 +159,7 @@ module _ (who : Caller) (before after : Seen) (s t : CloudState) (book : Book) (
   same_cache c same k = subst (KnowsCache st) (sym same) k
 
   works : (work : Work) (turn : Turn Answer) (c : Cache) → old ≡ work → StepsAt who before after work new.work turn → ShowsAt who before after (work, kept) (record new { cache = c }) turn
-      → new.cache ≡ shown_behind new.work c → Goes book order s t sessions who.session new
+      → new.cache ≡ shown_behind new.work c → Goes (ground book order s sessions) t who.session new
   works (Opening r) turn c is steps shown left =
       goes_by (recovery_ask r) (λ a. a) c (ap ask_of_work is)
       (sym (ap (λ w. noted_at w (recovery_ask r) (audit_of book order)) is ∙ nothing_noted (Opening r) (recovery_ask r) (audit_of book order) refl refl)) left
@@ -228,7 +228,7 @@ module _ (who : Caller) (before after : Seen) (s t : CloudState) (book : Book) (
   works (Broken l) turn c is never shown left = absurd never
 
   steps_keep : (result : Result (Turn Answer) Refused) → new.buffer ≡ noted_behind old (sessions who.session).buffer → Shows who before after (sessions who.session) new result
-      → StepsWork who before after old new.work result → Goes book order s t sessions who.session new
+      → StepsWork who before after old new.work result → Goes (ground book order s sessions) t who.session new
   steps_keep (Ok turn) buffer shown steps = works old turn shown.0 refl steps shown.1 shown.2
   steps_keep (Err (refused.Rule r)) buffer shown steps =
       idle_goes s t book order sessions who.session new (same_Some t s (sym told_after ∙ (ap (λ (x : Seen). x.state) steps.3 ∙ told)))
@@ -272,7 +272,7 @@ noted_may (Sweeping m) buffer may = may
 -- a call of a session: any answer, landed or not
 pub session_keeps : (who : Caller) (before after : Seen) (s t : CloudState) (book : Book) (order : List Entry) (sessions : Sessions) (new : Acting) (result : Result (Turn Answer) Refused)
     → before.state ≡ Some s → after.state ≡ Some t → SessionsStand book order s sessions → StepsSession who before after (sessions who.session) new result
-    → Goes book order s t sessions who.session new
+    → Goes (ground book order s sessions) t who.session new
 session_keeps who before after s t book order sessions new result told told_after stand steps =
     steps_keep who before after s t book order sessions new told told_after stand
     (subst MayCommit (sym steps.buffer) (noted_may (sessions who.session).work (sessions who.session).buffer (stand.each who.session).buffer)) result steps.buffer steps.shown steps.work

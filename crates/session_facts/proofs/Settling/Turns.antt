@@ -21,7 +21,7 @@ use Rattle.session_facts.proofs.Settling.Along.{Hands, Along, along_step, along_
 use Rattle.session_facts.proofs.Settling.Free.{settling_takes_free, settling_alone}
 use Rattle.session_facts.proofs.Settling.Stories.{settling_known}
 use Rattle.session_facts.specs.Sessions.Calls.{session_step, calling_of, reply_at, reply_of}
-use Rattle.session_facts.specs.Sessions.Knows.{Sessions, SessionsStand, Goes as SessionGoes}
+use Rattle.session_facts.specs.Sessions.Knows.{ground, Sessions, SessionsStand, Goes as SessionGoes}
 use Rattle.session_facts.specs.Settling.Locks.{HoldsAlone}
 use Rattle.session_facts.specs.Settling.Story.{Moment, store_at, IsAtWork, IsTurn}
 use Rattle.session_facts.specs.Machines.Settlings.Knows.{leases_of_settling}
@@ -146,7 +146,7 @@ module _ (B : Settling → Moment → Type 0) (E : Settling → Settled → Mome
     left : Leaves (settler n) (settle_ask m) reply (counted before.counts from.state) after.counts after.state
     left = step.0.state from.state told
 
-    goes : SessionGoes from.book from.order from.state left.after from.sessions 0 new
+    goes : SessionGoes (ground from.book from.order from.state from.sessions) left.after 0 new
     goes =
         session_keeps (settler n) before after from.state left.after from.book from.order from.sessions new (Ok turn) told left.told from.stand
         (subst (λ (a : Acting). StepsSession (settler n) before after a new (Ok turn)) (sym way.session_is) p)

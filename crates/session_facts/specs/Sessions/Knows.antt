@@ -108,12 +108,22 @@ IsRightOp (op.Lookup tree attr) = IsTree tree
 IsRightOp (op.Tree tree) = IsTree tree
 IsRightOp (op.Page tree page) = IsTree tree × IsPage page
 
+-- what a call finds: a book and an order, a cloud and all sessions
+pub record Ground : Type 0 where
+  pub book : Book
+  pub order : List Entry
+  pub state : CloudState
+  pub sessions : Sessions
+
+abbrev pub ground : Book → List Entry → CloudState → Sessions → Ground
+ground book order s sessions = record { book = book; order = order; state = s; sessions = sessions }
+
 -- what a call of a session leaves: a book and an order for all sessions, of which one is new, that go on exactly by what was seen to land
-pub record Goes (book : Book) (order : List Entry) (s t : CloudState) (sessions : Sessions) (session : ℕ) (new : Acting) : Type 0 where
+pub record Goes (from : Ground) (t : CloudState) (session : ℕ) (new : Acting) : Type 0 where
   pub book_after : Book
   pub order_after : List Entry
-  pub stand : SessionsStand book_after order_after t (at session new sessions)
-  pub log_goes_on : BeginsWith book.log book_after.log
-  pub order_goes_on : BeginsWith order order_after
-  pub grows : Grows (store_of book order s) (store_of book_after order_after t)
-  pub noted : audited (newest s) (newest t) (sessions session).work (audit_of book order) ≡ audit_of book_after order_after
+  pub stand : SessionsStand book_after order_after t (at session new from.sessions)
+  pub log_goes_on : BeginsWith from.book.log book_after.log
+  pub order_goes_on : BeginsWith from.order order_after
+  pub grows : Grows (store_of from.book from.order from.state) (store_of book_after order_after t)
+  pub noted : audited (newest from.state) (newest t) (from.sessions session).work (audit_of from.book from.order) ≡ audit_of book_after order_after

@@ -7,7 +7,7 @@ use Rattle.cloud_facts.specs.Book.Book.{with_pieces}
 use Rattle.cloud_facts.specs.Book.Tally.{at2}
 use Rattle.cloud_facts.proofs.Book.Names.{at2_by}
 use Rattle.cloud_facts.proofs.Tellings.Names.{at2_other}
-use Rattle.cloud_facts.specs.Calls.Links.{HasTreeLease, LinksBy, GoneBy, OwesLease}
+use Rattle.cloud_facts.specs.Calls.Links.{in_hand_at, HasTreeLease, LinksBy, GoneBy, OwesLease}
 
 -- no pieces join
 pub no_pieces : (page : ℕ) (links : List Link) → with_pieces page [] links ≡ links
@@ -27,7 +27,7 @@ one_level mine now tree level links chain has t = on (t == tree) refl
     on true e = inr (subst (HasTreeLease mine now) (sym (eqb-true t tree e)) has)
     on false e = inl (λ l. at2_other tree level links chain t l (eqb-false t tree e))
 
-pub landing_links : (mine : List Claim) (now : ℕ) (who : Caller) (st : Store) (ask : Ask) (su : Store) → (l : Landing who st ask su) → OwesLease mine now who st ask su l
+pub landing_links : (mine : List Claim) (now : ℕ) (who : Caller) (st : Store) (ask : Ask) (su : Store) → (l : Landing who st ask su) → OwesLease (in_hand_at mine now) who st ask su l
     → LinksBy mine now st su
 landing_links mine now who st ask su (opens client head records bytes one two e o) owes tree = inl (λ level. refl)
 landing_links mine now who st ask su (settles client head bytes one two e o) owes tree = inl (λ level. refl)
@@ -58,7 +58,7 @@ one_gone mine now tree page gone has t = on (t == tree) refl
     on true e = inr (subst (HasTreeLease mine now) (sym (eqb-true t tree e)) has)
     on false e = inl (λ p. at2_other tree page true gone t p (eqb-false t tree e))
 
-pub landing_gone : (mine : List Claim) (now : ℕ) (who : Caller) (st : Store) (ask : Ask) (su : Store) → (l : Landing who st ask su) → OwesLease mine now who st ask su l
+pub landing_gone : (mine : List Claim) (now : ℕ) (who : Caller) (st : Store) (ask : Ask) (su : Store) → (l : Landing who st ask su) → OwesLease (in_hand_at mine now) who st ask su l
     → GoneBy mine now st su
 landing_gone mine now who st ask su (opens client head records bytes one two e o) owes tree = inl (λ page. refl)
 landing_gone mine now who st ask su (settles client head bytes one two e o) owes tree = inl (λ page. refl)

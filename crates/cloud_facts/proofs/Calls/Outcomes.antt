@@ -8,7 +8,7 @@ use Rattle.cloud_facts.specs.Words.{ObjName, Entry, Answer, CloudState, called, 
 use Rattle.cloud_trait.specs.Ask.{ListHeld, RemoveHeld, Lands, effect, PutsNothing, TouchesNoMessage}
 use Rattle.cloud_trait.specs.State.{landed as put}
 use Rattle.cloud_facts.specs.Calls.Acting.{Outcome, Handles}
-use Rattle.cloud_facts.specs.Calls.Links.{LinksBy, GoneBy, OwesLease}
+use Rattle.cloud_facts.specs.Calls.Links.{in_hand_at, LinksBy, GoneBy, OwesLease}
 use Rattle.cloud_trait.specs.Bench.{has_bytes}
 use Rattle.cloud_facts.specs.Calls.Looks.{Newest, has_landed, audited_at, audit_of}
 use Rattle.cloud_facts.specs.Calls.Others.{Passes}
@@ -115,7 +115,7 @@ module _ (who : Caller) (book : Book) (order : List Entry) (s t : CloudState) (p
   -- ---- a call that landed
 
   module _ (su : Store) (lands : Lands who ask (called who t.now s) t) (stands : StandsUnder book order s) (l : Landing who (store_of book order s) ask su)
-      (f : Follows who (store_of book order s) ask su l) (c : Commits who (store_of book order s) (parts who.session) ask su l) (owes : OwesLease mine t.now who (store_of book order s) ask su l) (part : Part) (homes : HomesHold su.tally t.now (at who.session part parts)) (knows : K su t.now part) where
+      (f : Follows who (store_of book order s) ask su l) (c : Commits who (store_of book order s) (parts who.session) ask su l) (owes : OwesLease (in_hand_at mine t.now) who (store_of book order s) ask su l) (part : Part) (homes : HomesHold su.tally t.now (at who.session part parts)) (knows : K su t.now part) where
     called_stands : StandsUnder book order (called who t.now s)
     called_stands = same_stands book order s (called who t.now s) refl refl refl stands
 
@@ -157,7 +157,7 @@ module _ (who : Caller) (book : Book) (order : List Entry) (s t : CloudState) (p
 pub put_landed : (who : Caller) (book : Book) (order : List Entry) (s t : CloudState) (parts : Parts) (mine : List Claim) (note : Audited → Audited) (K : Store → ℕ → Part → Type 0) (name : ObjName)
     (bytes : List ℕ) (one : Claim) (two : Option Claim) (su : Store) → Lands who (PutHeld name bytes one two) (called who t.now s) t → StandsUnder book order s
     → (l : Landing who (store_of book order s) (PutHeld name bytes one two) su) → Follows who (store_of book order s) (PutHeld name bytes one two) su l
-    → Commits who (store_of book order s) (parts who.session) (PutHeld name bytes one two) su l → OwesLease mine t.now who (store_of book order s) (PutHeld name bytes one two) su l → (part : Part)
+    → Commits who (store_of book order s) (parts who.session) (PutHeld name bytes one two) su l → OwesLease (in_hand_at mine t.now) who (store_of book order s) (PutHeld name bytes one two) su l → (part : Part)
     → HomesHold su.tally t.now (at who.session part parts) → K su t.now part → note (audit_of book order) ≡ audit_of su.book su.order
     → Outcome who book order s t parts mine (PutHeld name bytes one two) note K
 put_landed who book order s t parts mine note K name bytes one two su lands stands l f c owes part homes knows noted =

@@ -27,18 +27,26 @@ SameGone st su tree = (page : ℕ) → su.tally.gone tree page ≡ st.tally.gone
 abbrev pub GoneBy : List Claim → ℕ → Store → Store → Type 0
 GoneBy mine now st su = (tree : ℕ) → SameGone st su tree ⊎ HasTreeLease mine now tree
 
+-- leases in hand at a moment
+pub record InHandAt : Type 0 where
+  pub mine : List Claim
+  pub now : ℕ
+
+abbrev pub in_hand_at : List Claim → ℕ → InHandAt
+in_hand_at mine now = record { mine = mine; now = now }
+
 -- what a call owes for that: the leases that it has where it joins links, or removes a page
-abbrev pub OwesLease : List Claim → ℕ → (who : Caller) (st : Store) (ask : Ask) (su : Store) → Landing who st ask su → Type 0
-OwesLease mine now who st ask su (opens client head records bytes one two e o) = Unit {0}
-OwesLease mine now who st ask su (settles client head bytes one two e o) = Unit {0}
-OwesLease mine now who st ask su (logs client bytes r o) = Unit {0}
-OwesLease mine now who st ask su (posts tree page bytes r o) = Unit {0}
-OwesLease mine now who st ask su (marks_log client id o) = Unit {0}
-OwesLease mine now who st ask su (marks_post tree page id o) = Unit {0}
-OwesLease mine now who st ask su (puts_leaf p bytes one two e takes lands there) = (p.pieces ≡ []) ⊎ HasTreeLease mine now p.tree
-OwesLease mine now who st ask su (puts_page tree page node bytes one two is e first lands) = Unit {0}
-OwesLease mine now who st ask su (puts_inner tree page node pieces bytes one two is e lands there) = HasTreeLease mine now tree
-OwesLease mine now who st ask su (puts_root tree t bytes one two is e covers lands) = Unit {0}
-OwesLease mine now who st ask su (raises_root tree t level links bytes one two is e covers lands there) = HasTreeLease mine now tree
-OwesLease mine now who st ask su (removes tree page l is o) = HasTreeLease mine now tree
-OwesLease mine now who st ask su (stays asked puts touches) = Unit {0}
+abbrev pub OwesLease : InHandAt → (who : Caller) (st : Store) (ask : Ask) (su : Store) → Landing who st ask su → Type 0
+OwesLease held who st ask su (opens client head records bytes one two e o) = Unit {0}
+OwesLease held who st ask su (settles client head bytes one two e o) = Unit {0}
+OwesLease held who st ask su (logs client bytes r o) = Unit {0}
+OwesLease held who st ask su (posts tree page bytes r o) = Unit {0}
+OwesLease held who st ask su (marks_log client id o) = Unit {0}
+OwesLease held who st ask su (marks_post tree page id o) = Unit {0}
+OwesLease held who st ask su (puts_leaf p bytes one two e takes lands there) = (p.pieces ≡ []) ⊎ HasTreeLease held.mine held.now p.tree
+OwesLease held who st ask su (puts_page tree page node bytes one two is e first lands) = Unit {0}
+OwesLease held who st ask su (puts_inner tree page node pieces bytes one two is e lands there) = HasTreeLease held.mine held.now tree
+OwesLease held who st ask su (puts_root tree t bytes one two is e covers lands) = Unit {0}
+OwesLease held who st ask su (raises_root tree t level links bytes one two is e covers lands there) = HasTreeLease held.mine held.now tree
+OwesLease held who st ask su (removes tree page l is o) = HasTreeLease held.mine held.now tree
+OwesLease held who st ask su (stays asked puts touches) = Unit {0}

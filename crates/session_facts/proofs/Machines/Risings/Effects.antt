@@ -25,7 +25,7 @@ use Rattle.tree_phases.specs.Placing.{put_next, put_first, has_nothing}
 use Rattle.tree_phases.specs.Reserve.{version_spent}
 use Rattle.tree_phases.specs.declared.rising.Rising.{Rising}
 use Rattle.tree_phases.specs.Rising.{last_ask, rising_ask, rise, landed, put_next as put_then, after_put, put_landed}
-use Rattle.cloud_facts.specs.Calls.Links.{OwesLease}
+use Rattle.cloud_facts.specs.Calls.Links.{in_hand_at, OwesLease}
 use Rattle.session_facts.specs.Machines.Risings.Knows.{RisesOn}
 
 -- ---- the put in hand
@@ -130,7 +130,7 @@ pub record RisingEffect (book : Book) (order : List Entry) (s : CloudState) (who
   pub lands : Landing who (store_of book order s) (PutHeld name bytes lease None) after
   pub follows : Follows who (store_of book order s) (PutHeld name bytes lease None) after lands
   pub commits : Commits who (store_of book order s) own (PutHeld name bytes lease None) after lands
-  pub owes : OwesLease mine now who (store_of book order s) (PutHeld name bytes lease None) after lands
+  pub owes : OwesLease (in_hand_at mine now) who (store_of book order s) (PutHeld name bytes lease None) after lands
   pub heads : after.tally.head ≡ (store_of book order s).tally.head
   pub logged : after.tally.logged ≡ (store_of book order s).tally.logged
   pub noted : audit_of after.book after.order ≡ audit_of book order

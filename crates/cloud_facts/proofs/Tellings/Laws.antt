@@ -28,7 +28,7 @@ use Rattle.cloud_facts.proofs.Decoding.Newest.{IsLast, last_cases}
 use Rattle.cloud_facts.proofs.Decoding.Values.{leaf_next}
 use Rattle.cloud_facts.specs.Chains.Cuts.{HaveLanded, leaf_node}
 use Rattle.cloud_facts.specs.Tellings.Pieces.{first_part, right_of, leaf_parts, left_leaf, leaf_links}
-use Rattle.cloud_facts.specs.Tellings.Taking.{AreClients, IsLinked, LandsTaken, taking_of}
+use Rattle.cloud_facts.specs.Tellings.Taking.{leaf_take, AreClients, IsLinked, LandsTaken, taking_of}
 use Rattle.cloud_facts.specs.Tellings.Told.{Tells, own_of}
 use Rattle.cloud_facts.proofs.Tellings.Fences.{Rises, all_parts}
 use Rattle.cloud_facts.proofs.Tellings.Finding.{ranges_are}
@@ -43,7 +43,7 @@ use Rattle.cloud_facts.proofs.Tellings.Sound.{newest_sound, leaf_rises, pieces_r
 -- the whole leaf lands
 pub whole_taken : (chain : ℕ → List Link) (nodes : ℕ → List Node) (page : ℕ) (l : Leaf) (queue : ℕ) (run : List PuItem) (free : ℕ) → AreClients run
     → IsLinked (chain 0) page
-    → LandsTaken chain nodes page l queue run [] free
+    → LandsTaken chain nodes (leaf_take page l queue run [] free)
 whole_taken chain nodes page l queue run free clients linked = record {
   clients = clients;
   linked = linked;
@@ -58,7 +58,7 @@ pub cut_taken : (chain : ℕ → List Link) (nodes : ℕ → List Node) (page : 
     → IsLinked (chain 0) page
     → HaveLanded leaf_node nodes free (right_of (leaf_pieces free (applied l queue run)))
     → ((piece : Link) → IsIn (leaf_links (cuts_of (length (applied l queue run).records)) free (applied l queue run)) piece → IsUnlinked chain piece.page)
-    → LandsTaken chain nodes page l queue run (cuts_of (length (applied l queue run).records)) free
+    → LandsTaken chain nodes (leaf_take page l queue run (cuts_of (length (applied l queue run).records)) free)
 cut_taken chain nodes page l queue run free clients linked landed unlinked = record {
   clients = clients;
   linked = linked;
@@ -78,7 +78,7 @@ module _ (book : Book) (order : List Entry) (s : CloudState) (tree : ℕ) (of_tr
   -- ---- a leaf that takes a run
 
   module _ (who : Caller) (page : ℕ) (queue : ℕ) (run : List PuItem) (sizes : List ℕ) (free : ℕ) (bytes : List ℕ)
-      (takes : LandsTaken (book.chain tree) (nodes_of s tree) page (newest_leaf (nodes_of s) tree page) queue run sizes free)
+      (takes : LandsTaken (book.chain tree) (nodes_of s tree) (leaf_take page (newest_leaf (nodes_of s) tree page) queue run sizes free))
       (is : IsLeaf bytes (left_leaf sizes free (applied (newest_leaf (nodes_of s) tree page) queue run))) where
     abbrev old : Leaf
     old = newest_leaf (nodes_of s) tree page
@@ -95,12 +95,12 @@ module _ (book : Book) (order : List Entry) (s : CloudState) (tree : ℕ) (of_tr
         (leaf_rises bytes (first_part (part_of_leaf (applied old queue run)) (leaf_parts sizes free (applied old queue run))) is)
         (pieces_rise s tree free (right_of (leaf_parts sizes free (applied old queue run))) d takes.landed)
 
-    pub taken_tells : gone_of s tree page ≡ false → Tells (put who (object.Page tree page) bytes s) (after_leaf (taking_of tree page old queue run sizes free) (store_of book order s))
+    pub taken_tells : gone_of s tree page ≡ false → Tells (put who (object.Page tree page) bytes s) (after_leaf (taking_of tree (leaf_take page old queue run sizes free)) (store_of book order s))
     taken_tells there =
         leaf_tells who book order s tree page queue run sizes free bytes
         (newest_root (roots_of s) tree).level chained.levels chained.versions chained.newest some (newest_sound s tree page d) takes rise is there
 
-    pub taken_lands : LandsLeaf (store_of book order s) (taking_of tree page old queue run sizes free)
+    pub taken_lands : LandsLeaf (store_of book order s) (taking_of tree (leaf_take page old queue run sizes free))
     taken_lands =
         lands_leaf who book order s tree page queue run sizes free bytes
         (newest_root (roots_of s) tree).level chained.levels chained.versions chained.newest some (newest_sound s tree page d) takes rise is
@@ -110,7 +110,7 @@ module _ (book : Book) (order : List Entry) (s : CloudState) (tree : ℕ) (of_tr
 
     pub taken_table : (key : List ℕ) → holds old key ≡ true → (q c : ℕ)
         → done_number (left_leaf sizes free (applied old queue run)).done q c
-        ≡ done_after (taking_of tree page old queue run sizes free) (tally_of book s).done tree key q c
+        ≡ done_after (taking_of tree (leaf_take page old queue run sizes free)) (tally_of book s).done tree key q c
     taken_table =
         table_is who book order s tree page queue run sizes free bytes
         (newest_root (roots_of s) tree).level chained.levels chained.versions chained.newest some (newest_sound s tree page d) takes rise is

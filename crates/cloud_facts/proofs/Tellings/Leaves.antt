@@ -30,7 +30,7 @@ use Rattle.cloud_facts.specs.Chains.Links.{low_after}
 use Rattle.cloud_facts.proofs.Chains.Pieces.{in_first, in_rest, in_cases, none_in}
 use Rattle.cloud_facts.specs.Chains.Cuts.{links_on, HaveLanded, leaf_node}
 use Rattle.cloud_facts.specs.Tellings.Pieces.{right_of, leaf_parts, left_leaf, leaf_links}
-use Rattle.cloud_facts.specs.Tellings.Taking.{taking_of, LandsTaken}
+use Rattle.cloud_facts.specs.Tellings.Taking.{leaf_take, taking_of, LandsTaken}
 use Rattle.cloud_facts.specs.Tellings.Told.{Tells, own_of}
 use Rattle.cloud_facts.proofs.Tellings.Cuts.{AreAt, Finds, cut_finds}
 use Rattle.cloud_facts.proofs.Tellings.Easy.{alike}
@@ -60,7 +60,7 @@ module _ (who : Caller) (book : Book) (order : List Change) (s : CloudState) (tr
     (bytes : List ℕ) (height : ℕ)
     (lv : AreLevels (book.chain tree) height) (vs : AreVersions (book.chain tree) (nodes_of s tree)) (nw : AreNewest (book.chain tree) (nodes_of s tree))
     (some : page ≢ 0) (sound : IsSound (newest_leaf (nodes_of s) tree page))
-    (takes : LandsTaken (book.chain tree) (nodes_of s tree) page (newest_leaf (nodes_of s) tree page) queue run sizes free)
+    (takes : LandsTaken (book.chain tree) (nodes_of s tree) (leaf_take page (newest_leaf (nodes_of s) tree page) queue run sizes free))
     (rise : AllByRecursion Rises (leaf_parts sizes free (applied (newest_leaf (nodes_of s) tree page) queue run)))
     (is : IsLeaf bytes (left_leaf sizes free (applied (newest_leaf (nodes_of s) tree page) queue run))) where
   -- the leaf before, the whole leaf with the run, the piece that lands, and the links of the others
@@ -158,7 +158,7 @@ module _ (who : Caller) (book : Book) (order : List Change) (s : CloudState) (tr
   -- ---- what is told
 
   abbrev taking : Taking
-  taking = taking_of tree page old queue run sizes free
+  taking = taking_of tree (leaf_take page old queue run sizes free)
 
   done_here : (key : List ℕ) (q c : ℕ) → holds old key ≡ true
       → done_number (leaf_for after later tree key).done q c

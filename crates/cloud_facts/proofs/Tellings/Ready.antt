@@ -28,7 +28,7 @@ use Rattle.cloud_facts.proofs.Decoding.Values.{node_next, inner_next}
 use Rattle.cloud_facts.proofs.Decoding.Versions.{none_there}
 use Rattle.cloud_facts.specs.Chains.Cuts.{links_on, HaveLanded, inner_node}
 use Rattle.cloud_facts.specs.Tellings.Pieces.{first_part, right_of, node_parts, left_inner, node_links, left_leaf}
-use Rattle.cloud_facts.specs.Tellings.Taking.{AreClients, IsLinked, LandsTaken, taking_of}
+use Rattle.cloud_facts.specs.Tellings.Taking.{leaf_take, AreClients, IsLinked, LandsTaken, taking_of}
 use Rattle.cloud_facts.specs.Tellings.Told.{own_of}
 use Rattle.cloud_facts.proofs.Tellings.Fences.{Rises, all_parts, cut_common, cut_version, cut_lands, cut_links, level_pieces, level_ascends, pages_distinct}
 use Rattle.cloud_facts.proofs.Tellings.Finding.{found_before}
@@ -52,14 +52,14 @@ module _ (book : Book) (order : List Entry) (s : CloudState) (tree : ℕ) (of_tr
 
   -- the run's items are records of its queue; that the leaf is its page's with the run follows
   pub taken_takes : (who : Caller) (page queue : ℕ) (run : List PuItem) (sizes : List ℕ) (free : ℕ) (bytes : List ℕ)
-      → LandsTaken (book.chain tree) (nodes_of s tree) page (newest_leaf (nodes_of s) tree page) queue run sizes free
+      → LandsTaken (book.chain tree) (nodes_of s tree) (leaf_take page (newest_leaf (nodes_of s) tree page) queue run sizes free)
       → IsLeaf bytes (left_leaf sizes free (applied (newest_leaf (nodes_of s) tree page) queue run))
       → ((x : PuItem) → IsIn run x → IsItemOf (store_of book order s) tree queue x)
       → ((client : ℕ) → IsClient client → (from : ℕ) × IsConsecutive (store_of book order s) tree queue run client from)
       → IsSorted item_cmp run
       → (queue ≡ page → (x : PuItem) → IsIn run x → holds (newest_leaf (nodes_of s) tree page) (key_of x.rec.change) ≡ false
       → x.rec.number ≤ (tally_of book s).done tree (key_of x.rec.change) queue x.rec.client)
-      → Takes (store_of book order s) (taking_of tree page (newest_leaf (nodes_of s) tree page) queue run sizes free)
+      → Takes (store_of book order s) (taking_of tree (leaf_take page (newest_leaf (nodes_of s) tree page) queue run sizes free))
   taken_takes who page queue run sizes free bytes takes is items consecutive sorted home_last = record {
     is_tree = of_tree;
     ranges = taken_ranges book order s tree of_tree h d who page queue run sizes free bytes takes is;

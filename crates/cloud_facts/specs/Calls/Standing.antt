@@ -15,7 +15,7 @@ use Rattle.cloud_facts.specs.Book.Book.{Book}
 use Rattle.cloud_facts.specs.Book.Effects.{Taking}
 use Rattle.cloud_facts.specs.Book.Tally.{Store, version_of}
 use Rattle.cloud_facts.specs.Book.Telling.{newest_leaf}
-use Rattle.cloud_facts.specs.Tellings.Taking.{taking_of, LandsTaken}
+use Rattle.cloud_facts.specs.Tellings.Taking.{leaf_take, taking_of, LandsTaken}
 use Rattle.cloud_facts.specs.Tellings.Told.{store_of}
 
 -- a cloud stands under a book, with an order: what it tells holds, all bytes of it decode, and what landed has its rows and brought it no further
@@ -29,8 +29,8 @@ pub record StandsUnder (book : Book) (order : List Entry) (s : CloudState) : Typ
 pub record IsTaken (st : Store) (p : Taking) : Type 0 where
   pub sizes : List ℕ
   pub free : ℕ
-  pub is : p ≡ taking_of p.tree p.page (newest_leaf st.tally.nodes p.tree p.page) p.queue p.run sizes free
-  pub lands : LandsTaken (st.book.chain p.tree) (st.tally.nodes p.tree) p.page (newest_leaf st.tally.nodes p.tree p.page) p.queue p.run sizes free
+  pub is : p ≡ taking_of p.tree (leaf_take p.page (newest_leaf st.tally.nodes p.tree p.page) p.queue p.run sizes free)
+  pub lands : LandsTaken (st.book.chain p.tree) (st.tally.nodes p.tree) (leaf_take p.page (newest_leaf st.tally.nodes p.tree p.page) p.queue p.run sizes free)
 
 -- what is put is the next version, and a leaf that takes a run is its page's with the run
 abbrev pub Follows : (who : Caller) (st : Store) (ask : Ask) (su : Store) → Landing who st ask su → Type 0

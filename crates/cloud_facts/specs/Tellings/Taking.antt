@@ -19,17 +19,32 @@ use Rattle.cloud_facts.specs.Tellings.Pieces.{right_of, leaf_parts, left_leaf, l
 abbrev pub AreClients : List PuItem → Type 0
 AreClients run = AllByRecursion (λ (x : PuItem). IsClient x.rec.client) run
 
--- the leaf of a page takes a run, and is cut into pieces of these sizes and a last one: the left piece lands on the page, the others stand
--- on the pages from `free` on; without sizes the whole leaf lands
-abbrev pub taking_of : ℕ → ℕ → Leaf → ℕ → List PuItem → List ℕ → ℕ → Taking
-taking_of tree page l queue run sizes free = record {
+-- the leaf of a page, the run of a queue that it takes, and how it is cut then: into pieces of these sizes and a last one, on pages from `free` on
+pub record LeafTake : Type 0 where
+  pub page : ℕ
+  pub leaf : Leaf
+  pub queue : ℕ
+  pub run : List PuItem
+  pub sizes : List ℕ
+  pub free : ℕ
+
+abbrev pub leaf_take : ℕ → Leaf → ℕ → List PuItem → List ℕ → ℕ → LeafTake
+leaf_take page l queue run sizes free = record { page = page; leaf = l; queue = queue; run = run; sizes = sizes; free = free }
+
+-- the leaf with the run applied
+abbrev pub whole_of : LeafTake → Leaf
+whole_of x = applied x.leaf x.queue x.run
+
+-- the left piece lands on the page, the others stand on the pages from `free` on; without sizes the whole leaf lands
+abbrev pub taking_of : ℕ → LeafTake → Taking
+taking_of tree x = record {
   tree = tree;
-  page = page;
-  leaf = left_leaf sizes free (applied l queue run);
-  range = holds l;
-  queue = queue;
-  run = run;
-  pieces = leaf_links sizes free (applied l queue run);
+  page = x.page;
+  leaf = left_leaf x.sizes x.free (whole_of x);
+  range = holds x.leaf;
+  queue = x.queue;
+  run = x.run;
+  pieces = leaf_links x.sizes x.free (whole_of x);
 }
 
 -- the page is that of a link of a level
@@ -40,13 +55,12 @@ pub record IsLinked (links : List Link) (page : ℕ) : Type 0 where
   pub page_is : link.page ≡ page
 
 -- what must be known where the left piece lands
-pub record LandsTaken (chain : ℕ → List Link) (nodes : ℕ → List Node) (page : ℕ) (l : Leaf) (queue : ℕ) (run : List PuItem) (sizes : List ℕ)
-    (free : ℕ) : Type 0 where
-  pub clients : AreClients run
-  pub linked : IsLinked (chain 0) page
+pub record LandsTaken (chain : ℕ → List Link) (nodes : ℕ → List Node) (x : LeafTake) : Type 0 where
+  pub clients : AreClients x.run
+  pub linked : IsLinked (chain 0) x.page
   -- the sizes fit, with a last piece
   pub last : ℕ
-  pub can : CanCut sizes last (length (applied l queue run).records)
+  pub can : CanCut x.sizes last (length (whole_of x).records)
   -- the other pieces landed before, on pages that are in no chain
-  pub landed : HaveLanded leaf_node nodes free (right_of (leaf_parts sizes free (applied l queue run)))
-  pub unlinked : (piece : Link) → IsIn (leaf_links sizes free (applied l queue run)) piece → IsUnlinked chain piece.page
+  pub landed : HaveLanded leaf_node nodes x.free (right_of (leaf_parts x.sizes x.free (whole_of x)))
+  pub unlinked : (piece : Link) → IsIn (leaf_links x.sizes x.free (whole_of x)) piece → IsUnlinked chain piece.page

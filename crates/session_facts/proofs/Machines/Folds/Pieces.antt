@@ -37,7 +37,7 @@ use Rattle.cloud_facts.specs.Book.Premises.{IsItemOf, Takes, LandsFirst, AreTher
 use Rattle.cloud_facts.specs.Book.Telling.{gone_of, newest_leaf}
 use Rattle.cloud_facts.proofs.Book.Places.{in_front, in_behind}
 use Rattle.cloud_facts.specs.Tellings.Pieces.{first_part, right_of, left_leaf}
-use Rattle.cloud_facts.specs.Tellings.Taking.{AreClients, IsLinked, LandsTaken, taking_of}
+use Rattle.cloud_facts.specs.Tellings.Taking.{leaf_take, AreClients, IsLinked, LandsTaken, taking_of}
 use Rattle.cloud_facts.proofs.Tellings.Laws.{cut_taken, taken_lands}
 use Rattle.cloud_facts.proofs.Tellings.Ready.{taken_takes, piece_first}
 use Rattle.session_facts.specs.Machines.Trees.Placings.{AreReserved}
@@ -91,7 +91,7 @@ module _ (book : Book) (order : List Entry) (s : CloudState) (stands : StandsUnd
   whole = applied old 0 run
 
   abbrev pub taken : Taking
-  taken = taking_of tree page old 0 run (cuts_of (length whole.records)) first
+  taken = taking_of tree (leaf_take page old 0 run (cuts_of (length whole.records)) first)
 
   is_cut : IsCut record_key first (part_of_leaf whole) (leaf_pieces first whole)
   is_cut = pieces-are-a-cut record_key first (part_of_leaf whole)
@@ -150,7 +150,7 @@ module _ (book : Book) (order : List Entry) (s : CloudState) (stands : StandsUnd
     rest : right_of (leaf_pieces first whole) ≡ behind
     rest = ap right_of pieces
 
-    pub lands_taken : LandsTaken (book.chain tree) (nodes_of s tree) page old 0 run (cuts_of (length whole.records)) first
+    pub lands_taken : LandsTaken (book.chain tree) (nodes_of s tree) (leaf_take page old 0 run (cuts_of (length whole.records)) first)
     lands_taken =
         cut_taken (book.chain tree) (nodes_of s tree) page old 0 run first (clients_of run clients) linked
         (subst (λ (ps : List LeafPart). HaveLanded leaf_node (nodes_of s tree) first ps) (sym rest)

@@ -17,7 +17,7 @@ use Rattle.run_cursor.specs.Run.{IsRun}
 use Rattle.cloud_facts.specs.Book.Effects.{Taking, is_lacking, lacking, after_leaf}
 use Rattle.cloud_facts.specs.Book.Premises.{IsItemOf, Takes}
 use Rattle.cloud_facts.specs.Book.Telling.{leaf_for, newest_leaf, newest_root}
-use Rattle.cloud_facts.specs.Tellings.Taking.{AreClients, taking_of, IsLinked, LandsTaken}
+use Rattle.cloud_facts.specs.Tellings.Taking.{leaf_take, AreClients, taking_of, IsLinked, LandsTaken}
 use Rattle.cloud_facts.proofs.Tellings.Finding.{found_before}
 use Rattle.cloud_facts.proofs.Tellings.Laws.{whole_taken, taken_lands}
 use Rattle.cloud_facts.proofs.Tellings.Ready.{taken_takes}
@@ -50,9 +50,9 @@ module _ (book : Book) (order : List Entry) (s : CloudState) (stands : StandsUnd
 
   -- the leaf takes the run, whole
   abbrev pub taken : Taking
-  taken = taking_of tree page old queue run [] 0
+  taken = taking_of tree (leaf_take page old queue run [] 0)
 
-  lands_taken : LandsTaken (book.chain tree) (nodes_of s tree) page old queue run [] 0
+  lands_taken : LandsTaken (book.chain tree) (nodes_of s tree) (leaf_take page old queue run [] 0)
   lands_taken = whole_taken (book.chain tree) (nodes_of s tree) page old queue run 0 (clients_of run clients) linked
 
   pub is_taken : IsTaken st taken

@@ -51,8 +51,8 @@ at_leaf_others mine st su now later lease f after held is o k = record {
 -- pages that are absent are guarded by the tree's lease, and those that landed and are in no chain stay as they are
 pub reserved_others : (mine : List Claim) (st su : Store) (later : ℕ) (lease : Claim) (tree first : ℕ) (middle behind : List LeafPart) → IsIn mine lease → lease.lock ≡ lock.Tree tree
     → Lasts later lease → Others mine later st su
-    → AreReserved leaf_node (st.book.chain tree) (st.tally.nodes tree) (st.tally.gone tree) (top_of (st.tally.roots tree)).next first middle behind
-    → AreReserved leaf_node (su.book.chain tree) (su.tally.nodes tree) (su.tally.gone tree) (top_of (su.tally.roots tree)).next first middle behind
+    → AreReserved leaf_node (st.book.chain tree) (st.tally.nodes tree) (st.tally.gone tree) (top_of (st.tally.roots tree)).next (numbered first middle behind)
+    → AreReserved leaf_node (su.book.chain tree) (su.tally.nodes tree) (su.tally.gone tree) (top_of (su.tally.roots tree)).next (numbered first middle behind)
 reserved_others mine st su later lease tree first middle behind held is lasts o r =
     reserved_stays leaf_node (st.book.chain tree) (su.book.chain tree) (st.tally.nodes tree) (su.tally.nodes tree) (st.tally.gone tree) (su.tally.gone tree) (top_of (st.tally.roots tree)).next
     (top_of (su.tally.roots tree)).next first middle behind unlinked pages (o.gone lease tree held is lasts) rises r

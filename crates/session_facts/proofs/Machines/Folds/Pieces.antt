@@ -40,7 +40,7 @@ use Rattle.cloud_facts.specs.Tellings.Pieces.{first_part, right_of, left_leaf}
 use Rattle.cloud_facts.specs.Tellings.Taking.{leaf_take, AreClients, IsLinked, LandsTaken, taking_of}
 use Rattle.cloud_facts.proofs.Tellings.Laws.{cut_taken, taken_lands}
 use Rattle.cloud_facts.proofs.Tellings.Ready.{taken_takes, piece_first}
-use Rattle.session_facts.specs.Machines.Trees.Placings.{AreReserved}
+use Rattle.session_facts.specs.Machines.Trees.Placings.{numbered, AreReserved}
 use Rattle.session_facts.proofs.Machines.Trees.Placings.{on_range}
 
 -- ---- spellings
@@ -100,7 +100,7 @@ module _ (book : Book) (order : List Entry) (s : CloudState) (stands : StandsUnd
 
   module _ (who : Caller) (one : Claim) (two : Option Claim) (front : LeafPart) (middle : List LeafPart) (last : LeafPart) (behind : List LeafPart)
       (pieces : leaf_pieces first whole ≡ front ∷ ((middle ++ last ∷ []) ++ behind)) (fit : AllByRecursion IsLeafPart (leaf_pieces first whole))
-      (reserved : AreReserved leaf_node (book.chain tree) (nodes_of s tree) (gone_of s tree) (top_of (roots_of s tree)).next first (middle ++ last ∷ []) behind)
+      (reserved : AreReserved leaf_node (book.chain tree) (nodes_of s tree) (gone_of s tree) (top_of (roots_of s tree)).next (numbered first (middle ++ last ∷ []) behind))
       (number : ℕ) (number_is : number ≡ first + length middle) (within : number < first + length (middle ++ last ∷ [])) where
     there : IsIn ((middle ++ last ∷ []) ++ behind) last
     there = in_front (middle ++ last ∷ []) behind last (in_behind middle (last ∷ []) last (zero, refl))
@@ -143,7 +143,7 @@ module _ (book : Book) (order : List Entry) (s : CloudState) (stands : StandsUnd
 
   module _ (who : Caller) (one : Claim) (two : Option Claim) (front : LeafPart) (behind : List LeafPart) (pieces : leaf_pieces first whole ≡ front ∷ behind)
       (fit : AllByRecursion IsLeafPart (leaf_pieces first whole))
-      (reserved : AreReserved leaf_node (book.chain tree) (nodes_of s tree) (gone_of s tree) (top_of (roots_of s tree)).next first [] behind)
+      (reserved : AreReserved leaf_node (book.chain tree) (nodes_of s tree) (gone_of s tree) (top_of (roots_of s tree)).next (numbered first [] behind))
       (cursor : List (ℕ × ℕ)) (received : List PuItem) (top : List (ℕ × ℕ)) (is_run : IsRun cursor received run top)
       (covered : (client : ℕ) → IsClient client → number_of cursor client ≤ st.tally.cursor tree 0 client)
       (items : (x : PuItem) → IsIn received x → IsItemOf st tree 0 x) where

@@ -195,10 +195,10 @@ module _ (book : Book) (order : List Entry) (s : CloudState) (stands : StandsUnd
       page_below : f.page ≤ (top_of (roots_of s tree)).next
       page_below = let less = (chained.pages.linked 0 (record { low = f.low; page = f.page }) at.way.at.linked).1 in omega (arith, less)
 
-      alone : (ps qs : List LeafPart) → length ps ≡ 0 → qs ≡ [] → AreReserved leaf_node (book.chain tree) (nodes_of s tree) (gone_of s tree) (top_of (roots_of s tree)).next f.page ps qs
+      alone : (ps qs : List LeafPart) → length ps ≡ 0 → qs ≡ [] → AreReserved leaf_node (book.chain tree) (nodes_of s tree) (gone_of s tree) (top_of (roots_of s tree)).next (numbered f.page ps qs)
       alone ps qs e g =
-          subst (λ (l : List LeafPart). AreReserved leaf_node (book.chain tree) (nodes_of s tree) (gone_of s tree) (top_of (roots_of s tree)).next f.page l qs) (sym (none_in_middle ps e))
-          (subst (λ (l : List LeafPart). AreReserved leaf_node (book.chain tree) (nodes_of s tree) (gone_of s tree) (top_of (roots_of s tree)).next f.page [] l) (sym g)
+          subst (λ (l : List LeafPart). AreReserved leaf_node (book.chain tree) (nodes_of s tree) (gone_of s tree) (top_of (roots_of s tree)).next (numbered f.page l qs)) (sym (none_in_middle ps e))
+          (subst (λ (l : List LeafPart). AreReserved leaf_node (book.chain tree) (nodes_of s tree) (gone_of s tree) (top_of (roots_of s tree)).next (numbered f.page [] l)) (sym g)
           (none_reserved leaf_node (book.chain tree) (nodes_of s tree) (gone_of s tree) (top_of (roots_of s tree)).next f.page page_below))
 
       reserved : (q : Reserved) → Reserving (tree_held f.chart.root) f.page (count_of (length whole.records) - 1) q

@@ -64,7 +64,7 @@ module _ (book : Book) (order : List Entry) (s : CloudState) (stands : StandsUnd
   same : k.leaf ≡ old
   same = ap leaf_in (sym (k.newest leaf_lasts).is)
 
-  reserved : AreReserved leaf_node (book.chain tree) (nodes_of s tree) (gone_of s tree) (top_of (roots_of s tree)).next k.first k.placing.middle behind
+  reserved : AreReserved leaf_node (book.chain tree) (nodes_of s tree) (gone_of s tree) (top_of (roots_of s tree)).next (numbered k.first k.placing.middle behind)
   reserved = subst (λ (o : Option (List ℕ)). Reserves st (Lasts now lease) tree (tree_held f.chart.root) (numbered k.first k.placing.middle behind) o) none k.reserves lasts
 
   pub fit : AllByRecursion IsLeafPart (leaf_pieces k.first (applied old 0 run))
@@ -79,8 +79,8 @@ module _ (book : Book) (order : List Entry) (s : CloudState) (stands : StandsUnd
     abbrev number : ℕ
     number = k.first + length middle
 
-    pub reserved_last : AreReserved leaf_node (book.chain tree) (nodes_of s tree) (gone_of s tree) (top_of (roots_of s tree)).next k.first (middle ++ last ∷ []) behind
-    reserved_last = subst (λ (m : List LeafPart). AreReserved leaf_node (book.chain tree) (nodes_of s tree) (gone_of s tree) (top_of (roots_of s tree)).next k.first m behind) is reserved
+    pub reserved_last : AreReserved leaf_node (book.chain tree) (nodes_of s tree) (gone_of s tree) (top_of (roots_of s tree)).next (numbered k.first (middle ++ last ∷ []) behind)
+    reserved_last = subst (λ (m : List LeafPart). AreReserved leaf_node (book.chain tree) (nodes_of s tree) (gone_of s tree) (top_of (roots_of s tree)).next (numbered k.first m behind)) is reserved
 
     pub within : number < k.first + length (middle ++ last ∷ [])
     within = let more = length-append middle (last ∷ []) in omega (arith, more)
@@ -140,8 +140,8 @@ module _ (book : Book) (order : List Entry) (s : CloudState) (stands : StandsUnd
   -- ---- the leaf itself
 
   module _ (who : Caller) (is : k.placing.middle ≡ []) where
-    pub reserved_none : AreReserved leaf_node (book.chain tree) (nodes_of s tree) (gone_of s tree) (top_of (roots_of s tree)).next k.first [] behind
-    reserved_none = subst (λ (m : List LeafPart). AreReserved leaf_node (book.chain tree) (nodes_of s tree) (gone_of s tree) (top_of (roots_of s tree)).next k.first m behind) is reserved
+    pub reserved_none : AreReserved leaf_node (book.chain tree) (nodes_of s tree) (gone_of s tree) (top_of (roots_of s tree)).next (numbered k.first [] behind)
+    reserved_none = subst (λ (m : List LeafPart). AreReserved leaf_node (book.chain tree) (nodes_of s tree) (gone_of s tree) (top_of (roots_of s tree)).next (numbered k.first m behind)) is reserved
 
     pub pieces_left : leaf_pieces k.first (applied old 0 run) ≡ front ∷ behind
     pieces_left = pieces ∙ ap (λ (m : List LeafPart). front ∷ (m ++ behind)) is

@@ -83,7 +83,7 @@ module _ (book : Book) (order : List Entry) (s : CloudState) (stands : StandsUnd
       puts_are = ap (λ (o : Option (List ℕ)). puts_after o f.placing.puts) some ∙ k.placing.puts_are;
     };
     reserves = λ still.
-        subst (λ (b : List LeafPart). AreReserved leaf_node (reserving_after.book.chain tree) (reserving_after.tally.nodes tree) (reserving_after.tally.gone tree) (top_of (reserving_after.tally.roots tree)).next k.first k.placing.middle b)
+        subst (λ (b : List LeafPart). AreReserved leaf_node (reserving_after.book.chain tree) (reserving_after.tally.nodes tree) (reserving_after.tally.gone tree) (top_of (reserving_after.tally.roots tree)).next (numbered k.first k.placing.middle b))
         (sym planned.0)
         (reserved_then book order s stands tree of_tree (record { session = 0; event = 0 }) lease None root newest count k.first bytes planned.1 leaf_node k.placing.middle refl);
     lacks = k.lacks;

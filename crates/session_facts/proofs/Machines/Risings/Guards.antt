@@ -46,9 +46,9 @@ module _ (book : Book) (order : List Entry) (s : CloudState) (stands : StandsUnd
 
   module _ (p : PutsNode st now lease r) where
     free : (middle : List NodePart) (last : NodePart) → p.placing.middle ≡ middle ++ last ∷ [] → Lasts now lease
-        → AreReserved inner_node (book.chain tree) (nodes_of s tree) (gone_of s tree) (top_of (roots_of s tree)).next p.first (middle ++ last ∷ []) p.placing.behind
+        → AreReserved inner_node (book.chain tree) (nodes_of s tree) (gone_of s tree) (top_of (roots_of s tree)).next (numbered p.first (middle ++ last ∷ []) p.placing.behind)
     free middle last is lasts =
-        subst (λ (m : List NodePart). AreReserved inner_node (book.chain tree) (nodes_of s tree) (gone_of s tree) (top_of (roots_of s tree)).next p.first m p.placing.behind) is
+        subst (λ (m : List NodePart). AreReserved inner_node (book.chain tree) (nodes_of s tree) (gone_of s tree) (top_of (roots_of s tree)).next (numbered p.first m p.placing.behind)) is
         (subst (λ (o : Option (List ℕ)). ReservesNodes st (Lasts now lease) tree (tree_held r.chart.root) (numbered p.first p.placing.middle p.placing.behind) o) none p.reserves lasts)
 
     node_guarded : (p.placing.middle ≡ []) ⊎ ((front : List NodePart) × (last : NodePart) × (p.placing.middle ≡ front ++ last ∷ [])) → Guarded
@@ -75,9 +75,9 @@ module _ (book : Book) (order : List Entry) (s : CloudState) (stands : StandsUnd
 
     module _ (c : PutsCut st now lease r bytes) where
       root_free : (middle : List NodePart) → c.middle ≡ middle → Lasts now lease
-          → AreReserved inner_node (book.chain tree) (nodes_of s tree) (gone_of s tree) (top_of (roots_of s tree)).next c.first middle c.behind
+          → AreReserved inner_node (book.chain tree) (nodes_of s tree) (gone_of s tree) (top_of (roots_of s tree)).next (numbered c.first middle c.behind)
       root_free middle is lasts =
-          subst (λ (m : List NodePart). AreReserved inner_node (book.chain tree) (nodes_of s tree) (gone_of s tree) (top_of (roots_of s tree)).next c.first m c.behind) is
+          subst (λ (m : List NodePart). AreReserved inner_node (book.chain tree) (nodes_of s tree) (gone_of s tree) (top_of (roots_of s tree)).next (numbered c.first m c.behind)) is
           (subst (ReservesNodes st (Lasts now lease) tree (tree_held r.chart.root) (numbered c.first c.middle c.behind)) none c.reserves lasts)
 
       at_piece : (front : List NodePart) (last : NodePart) → c.middle ≡ front ++ last ∷ [] → Guarded

@@ -98,7 +98,7 @@ module _ (book : Book) (order : List Entry) (s : CloudState) (stands : StandsUnd
 
   module _ (p : PutsCut st now lease r bytes) where
     abbrev Free : List NodePart → List NodePart → Type 0
-    Free ps qs = AreReserved inner_node (book.chain tree) (nodes_of s tree) (gone_of s tree) (top_of (roots_of s tree)).next p.first ps qs
+    Free ps qs = AreReserved inner_node (book.chain tree) (nodes_of s tree) (gone_of s tree) (top_of (roots_of s tree)).next (numbered p.first ps qs)
 
     planned : (r.is_spent ≡ false → p.root.version ≡ root.version + 1) × (p.root.next ≡ root.next) × (Lasts now lease → Free p.middle p.behind)
     planned =

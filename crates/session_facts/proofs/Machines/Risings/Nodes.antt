@@ -96,7 +96,7 @@ module _ (book : Book) (order : List Entry) (s : CloudState) (stands : StandsUnd
     none_in (p ∷ ps) e = absurd (omega (arith, e))
 
     abbrev Free : List NodePart → List NodePart → Type 0
-    Free ps qs = AreReserved inner_node (book.chain tree) (nodes_of s tree) (gone_of s tree) (top_of (roots_of s tree)).next kept.page ps qs
+    Free ps qs = AreReserved inner_node (book.chain tree) (nodes_of s tree) (gone_of s tree) (top_of (roots_of s tree)).next (numbered kept.page ps qs)
 
     alone : (ps qs : List NodePart) → length ps ≡ 0 → qs ≡ [] → Free ps qs
     alone ps qs e g =

@@ -58,8 +58,8 @@ node_stays st su now later lease tree kept after grows same a = record {
 -- pages that are absent are guarded by the tree's lease, and those that landed and are in no chain stay as they are
 pub free_others : {A X : Type 0} (node : Part A X → Node) (mine : List Claim) (st su : Store) (later : ℕ) (lease : Claim) (tree first : ℕ) (middle behind : List (Part A X)) → IsIn mine lease
     → lease.lock ≡ lock.Tree tree → Lasts later lease → Others mine later st su
-    → AreReserved node (st.book.chain tree) (st.tally.nodes tree) (st.tally.gone tree) (top_of (st.tally.roots tree)).next first middle behind
-    → AreReserved node (su.book.chain tree) (su.tally.nodes tree) (su.tally.gone tree) (top_of (su.tally.roots tree)).next first middle behind
+    → AreReserved node (st.book.chain tree) (st.tally.nodes tree) (st.tally.gone tree) (top_of (st.tally.roots tree)).next (numbered first middle behind)
+    → AreReserved node (su.book.chain tree) (su.tally.nodes tree) (su.tally.gone tree) (top_of (su.tally.roots tree)).next (numbered first middle behind)
 free_others {A} {X} node mine st su later lease tree first middle behind held is lasts o r =
     reserved_stays node (st.book.chain tree) (su.book.chain tree) (st.tally.nodes tree) (su.tally.nodes tree) (st.tally.gone tree) (su.tally.gone tree) (top_of (st.tally.roots tree)).next (top_of (su.tally.roots tree)).next
     first middle behind unlinked pages (o.gone lease tree held is lasts) rises r
@@ -91,8 +91,8 @@ free_others {A} {X} node mine st su later lease tree first middle behind held is
 module _ (st su : Store) (now later : ℕ) (lease : Claim) (r : Rising) (ids : List ℕ) (after : now ≤ later) (grows : Grows st su)
     (roots : Lasts later lease → su.tally.roots r.chart.tree ≡ st.tally.roots r.chart.tree) (nodes : KeepsNodes st su later r.chart.tree lease)
     (free : (first : ℕ) (middle behind : List NodePart) → Lasts later lease
-    → AreReserved inner_node (st.book.chain r.chart.tree) (st.tally.nodes r.chart.tree) (st.tally.gone r.chart.tree) (top_of (st.tally.roots r.chart.tree)).next first middle behind
-    → AreReserved inner_node (su.book.chain r.chart.tree) (su.tally.nodes r.chart.tree) (su.tally.gone r.chart.tree) (top_of (su.tally.roots r.chart.tree)).next first middle behind) where
+    → AreReserved inner_node (st.book.chain r.chart.tree) (st.tally.nodes r.chart.tree) (st.tally.gone r.chart.tree) (top_of (st.tally.roots r.chart.tree)).next (numbered first middle behind)
+    → AreReserved inner_node (su.book.chain r.chart.tree) (su.tally.nodes r.chart.tree) (su.tally.gone r.chart.tree) (top_of (su.tally.roots r.chart.tree)).next (numbered first middle behind)) where
   abbrev tree : ℕ
   tree = r.chart.tree
 

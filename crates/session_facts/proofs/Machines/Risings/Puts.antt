@@ -120,7 +120,7 @@ module _ (book : Book) (order : List Entry) (s : CloudState) (stands : StandsUnd
   behind = p.placing.behind
 
   abbrev Free : List NodePart → List NodePart → Type 0
-  Free ps qs = AreReserved inner_node (book.chain tree) (nodes_of s tree) (gone_of s tree) (top_of (roots_of s tree)).next p.first ps qs
+  Free ps qs = AreReserved inner_node (book.chain tree) (nodes_of s tree) (gone_of s tree) (top_of (roots_of s tree)).next (numbered p.first ps qs)
 
   reserved : Free p.placing.middle behind
   reserved = subst (λ (o : Option (List ℕ)). ReservesNodes st (Lasts now lease) tree (tree_held r.chart.root) (numbered p.first p.placing.middle behind) o) none p.reserves lasts

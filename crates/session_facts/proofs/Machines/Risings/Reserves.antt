@@ -81,7 +81,7 @@ module _ (book : Book) (order : List Entry) (s : CloudState) (stands : StandsUnd
     raised_then t x = subst (λ (q : Tree). IsRaised (book.chain tree) q r.chart.run.top t) (sym held) (record { level = x.level; cursor = x.cursor; names = x.names; ascends = x.ascends })
 
     free : (middle : List NodePart) → length middle ≡ count
-        → AreReserved inner_node (su.book.chain tree) (su.tally.nodes tree) (su.tally.gone tree) (top_of (su.tally.roots tree)).next first middle []
+        → AreReserved inner_node (su.book.chain tree) (su.tally.nodes tree) (su.tally.gone tree) (top_of (su.tally.roots tree)).next (numbered first middle [])
     free middle many = reserved_then book order s stands tree k.tree who lease None root newest count first bytes is inner_node middle many
 
     node_then : (p : PutsNode st now lease r) → (p.placing.behind ≡ []) → length p.placing.middle ≡ count → p.first ≡ first → PutsNode su now lease (landed r)
@@ -103,8 +103,8 @@ module _ (book : Book) (order : List Entry) (s : CloudState) (stands : StandsUnd
         puts_are = left_is ∙ p.placing.puts_are;
       };
       reserves = λ still.
-          subst (λ (b : List NodePart). AreReserved inner_node (su.book.chain tree) (su.tally.nodes tree) (su.tally.gone tree) (top_of (su.tally.roots tree)).next p.first p.placing.middle b) (sym none)
-          (subst (λ (n : ℕ). AreReserved inner_node (su.book.chain tree) (su.tally.nodes tree) (su.tally.gone tree) (top_of (su.tally.roots tree)).next n p.placing.middle []) (sym at) (free p.placing.middle many));
+          subst (λ (b : List NodePart). AreReserved inner_node (su.book.chain tree) (su.tally.nodes tree) (su.tally.gone tree) (top_of (su.tally.roots tree)).next (numbered p.first p.placing.middle b)) (sym none)
+          (subst (λ (n : ℕ). AreReserved inner_node (su.book.chain tree) (su.tally.nodes tree) (su.tally.gone tree) (top_of (su.tally.roots tree)).next (numbered n p.placing.middle [])) (sym at) (free p.placing.middle many));
     }
 
     cut_then : (last : List ℕ) (p : PutsCut st now lease r last) → (p.behind ≡ []) → length p.middle ≡ count → p.first ≡ first → (r.is_spent ≡ false → p.root.version ≡ root.version + 1 + 1) → p.root.next ≡ root.next + count
@@ -124,8 +124,8 @@ module _ (book : Book) (order : List Entry) (s : CloudState) (stands : StandsUnd
       spent = λ e. ap (λ (t : Tree). t.version) held ∙ subst (IsLastVersion root) some (p.spent e);
       succeeds = (λ whole. version whole ∙ ap (λ (t : Tree). t.version + 1) (sym held), next ∙ ap (λ (t : Tree). t.next) (sym held));
       reserves = λ still.
-          subst (λ (b : List NodePart). AreReserved inner_node (su.book.chain tree) (su.tally.nodes tree) (su.tally.gone tree) (top_of (su.tally.roots tree)).next p.first p.middle b) (sym none)
-          (subst (λ (n : ℕ). AreReserved inner_node (su.book.chain tree) (su.tally.nodes tree) (su.tally.gone tree) (top_of (su.tally.roots tree)).next n p.middle []) (sym at) (free p.middle many));
+          subst (λ (b : List NodePart). AreReserved inner_node (su.book.chain tree) (su.tally.nodes tree) (su.tally.gone tree) (top_of (su.tally.roots tree)).next (numbered p.first p.middle b)) (sym none)
+          (subst (λ (n : ℕ). AreReserved inner_node (su.book.chain tree) (su.tally.nodes tree) (su.tally.gone tree) (top_of (su.tally.roots tree)).next (numbered n p.middle [])) (sym at) (free p.middle many));
     }
 
     known : PutsOf su now lease (landed r) r.last → KnowsRising su now lease (landed r) ids

@@ -22,7 +22,7 @@ use Rattle.tree_phases.specs.Read.{tree_held}
 
 -- a number that is reserved and was not put yet is a page of the tree's, and was not removed
 pub reserved_page : {A X : Type 0} (node : Part A X → Node) (chain : ℕ → List Link) (nodes : ℕ → List Node) (gone : ℕ → Bool) (next first : ℕ) (middle : List (Part A X)) (last : Part A X)
-    (behind : List (Part A X)) → AreReserved node chain nodes gone next first (middle ++ last ∷ []) behind
+    (behind : List (Part A X)) → AreReserved node chain nodes gone next (numbered first (middle ++ last ∷ []) behind)
     → (gone (first + length middle) ≡ false) × IsTreePage nodes (first + length middle)
 reserved_page node chain nodes gone next first middle last behind r = (
   r.there (first + length middle) (omega arith) (omega (arith, more)),
@@ -70,9 +70,9 @@ module _ (book : Book) (order : List Entry) (s : CloudState) (stands : StandsUnd
               ∙ (ap (λ (m : List LeafPart). reverse (map (put_of leaf_bytes) (on_pages f.page k.first (k.placing.front ∷ m)))) is
               ∙ puts_more leaf_bytes f.page k.first k.placing.front middle last)
 
-          reserved : Lasts now lease → AreReserved leaf_node (book.chain tree) (nodes_of s tree) (gone_of s tree) (top_of (roots_of s tree)).next k.first (middle ++ last ∷ []) k.placing.behind
+          reserved : Lasts now lease → AreReserved leaf_node (book.chain tree) (nodes_of s tree) (gone_of s tree) (top_of (roots_of s tree)).next (numbered k.first (middle ++ last ∷ []) k.placing.behind)
           reserved lasts =
-              subst (λ (m : List LeafPart). AreReserved leaf_node (book.chain tree) (nodes_of s tree) (gone_of s tree) (top_of (roots_of s tree)).next k.first m k.placing.behind) is
+              subst (λ (m : List LeafPart). AreReserved leaf_node (book.chain tree) (nodes_of s tree) (gone_of s tree) (top_of (roots_of s tree)).next (numbered k.first m k.placing.behind)) is
               (subst (λ (o : Option (List ℕ)). Reserves (store_of book order s) (Lasts now lease) tree (tree_held f.chart.root) (numbered k.first k.placing.middle k.placing.behind) o) none k.reserves lasts)
 
       by_pieces : f.placing.reserved ≡ None → (k.placing.middle ≡ []) ⊎ ((front : List LeafPart) × (last : LeafPart) × (k.placing.middle ≡ front ++ last ∷ []))

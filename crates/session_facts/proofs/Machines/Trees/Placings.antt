@@ -9,7 +9,7 @@ use Rattle.split_plan.specs.Part.{Part}
 use Rattle.split_plan.specs.Plan.{put_of, on_pages}
 use Rattle.std.specs.Prelude.{slice_get}
 use Rattle.cloud_facts.specs.Words.{Link, Node, IsIn}
-use Rattle.session_facts.specs.Machines.Trees.Placings.{AreReserved}
+use Rattle.session_facts.specs.Machines.Trees.Placings.{numbered, AreReserved}
 
 -- ---- the last of a list
 
@@ -66,7 +66,7 @@ pub reserved_stays : {A X : Type 0} (node : Part A X → Node) (chain more : ℕ
     (middle behind : List (Part A X))
     → ((page : ℕ) → IsUnlinked chain page → IsUnlinked more page)
     → ((page : ℕ) → first ≤ page → page < first + (length middle + length behind) → new page ≡ nodes page) → ((page : ℕ) → still page ≡ gone page) → next ≤ later
-    → AreReserved node chain nodes gone next first middle behind → AreReserved node more new still later first middle behind
+    → AreReserved node chain nodes gone next (numbered first middle behind) → AreReserved node more new still later (numbered first middle behind)
 reserved_stays node chain more nodes new gone still next later first middle behind links same kept rises r = record {
   within = let w = r.within in omega (arith, w, rises);
   above = r.above;
@@ -82,7 +82,7 @@ reserved_stays node chain more nodes new gone still next later first middle behi
 pub piece_landed : {A X : Type 0} (node : Part A X → Node) (chain : ℕ → List Link) (nodes new : ℕ → List Node) (gone : ℕ → Bool) (next first : ℕ) (middle : List (Part A X))
     (last : Part A X) (behind : List (Part A X)) → new (first + length middle) ≡ nodes (first + length middle) ++ node last ∷ []
     → ((page : ℕ) → page ≢ first + length middle → new page ≡ nodes page)
-    → AreReserved node chain nodes gone next first (middle ++ last ∷ []) behind → AreReserved node chain new gone next first middle (last ∷ behind)
+    → AreReserved node chain nodes gone next (numbered first (middle ++ last ∷ []) behind) → AreReserved node chain new gone next (numbered first middle (last ∷ behind))
 piece_landed node chain nodes new gone next first middle last behind here there r = record {
   within = let w = r.within in omega (arith, w, count);
   above = λ page low high. r.above page low (omega (arith, high, count));
@@ -107,7 +107,7 @@ piece_landed node chain nodes new gone next first middle last behind here there 
 -- the numbers from a root's `next` on have no version and are in no chain, so those that its next version reserves are free
 pub fresh_reserved : {A X : Type 0} (node : Part A X → Node) (chain : ℕ → List Link) (nodes : ℕ → List Node) (gone : ℕ → Bool) (next later : ℕ) (height : ℕ)
     (middle : List (Part A X)) → AreLevels chain height → ArePages chain nodes next → ((page : ℕ) → nodes page ≡ [] → gone page ≡ false)
-    → later ≡ next + length middle → AreReserved node chain nodes gone later next middle []
+    → later ≡ next + length middle → AreReserved node chain nodes gone later (numbered next middle [])
 fresh_reserved {A} {X} node chain nodes gone next later height middle lv pages kept is = record {
   within = omega (arith, is);
   above = λ page low high. let first = two in omega (arith, first, low);
@@ -135,7 +135,7 @@ fresh_reserved {A} {X} node chain nodes gone next later height middle lv pages k
 
 -- a page without new pieces needs none
 pub none_reserved : {A X : Type 0} (node : Part A X → Node) (chain : ℕ → List Link) (nodes : ℕ → List Node) (gone : ℕ → Bool) (next first : ℕ) → first ≤ next
-    → AreReserved {A = A} {X = X} node chain nodes gone next first [] []
+    → AreReserved {A = A} {X = X} node chain nodes gone next (numbered first [] [])
 none_reserved node chain nodes gone next first less = record {
   within = omega (arith, less);
   above = λ page low high. absurd (omega (arith, low, high));

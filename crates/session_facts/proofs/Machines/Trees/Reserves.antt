@@ -26,7 +26,7 @@ use Rattle.cloud_facts.proofs.Book.Places.{in_behind}
 use Rattle.cloud_facts.proofs.Tellings.Names.{at2_same}
 use Rattle.tree_phases.specs.Read.{tree_held}
 use Rattle.session_facts.specs.Machines.Trees.Charts.{IsRootOf, KnowsRoot}
-use Rattle.session_facts.specs.Machines.Trees.Placings.{AreReserved, reserving, IsReservation}
+use Rattle.session_facts.specs.Machines.Trees.Placings.{numbered, AreReserved, reserving, IsReservation}
 use Rattle.session_facts.proofs.Machines.Trees.Placings.{fresh_reserved}
 use Rattle.tree_phases.proofs.Held.{held_spelled}
 
@@ -154,11 +154,11 @@ module _ (book : Book) (order : List Entry) (s : CloudState) (stands : StandsUnd
 
     -- behind it the numbers are free
     pub reserved_then : {A X : Type 0} (node : Part A X → Node) (middle : List (Part A X)) → length middle ≡ count
-        → AreReserved node ((after_root tree next st).book.chain tree) ((after_root tree next st).tally.nodes tree) ((after_root tree next st).tally.gone tree) (top_of ((after_root tree next st).tally.roots tree)).next first middle []
+        → AreReserved node ((after_root tree next st).book.chain tree) ((after_root tree next st).tally.nodes tree) ((after_root tree next st).tally.gone tree) (top_of ((after_root tree next st).tally.roots tree)).next (numbered first middle [])
     reserved_then {A} {X} node middle so_many =
-        subst (λ (n : ℕ). AreReserved node (book.chain tree) (nodes_of s tree) (gone_of s tree) n first middle []) (sym later)
-        (subst (λ (n : ℕ). AreReserved node (book.chain tree) (nodes_of s tree) (gone_of s tree) (root.next + count) n middle []) (sym is.first_is)
-        (subst (λ (n : ℕ). AreReserved node (book.chain tree) (nodes_of s tree) (gone_of s tree) (root.next + count) n middle []) (ap (λ (t : Tree). t.next) newest)
+        subst (λ (n : ℕ). AreReserved node (book.chain tree) (nodes_of s tree) (gone_of s tree) n (numbered first middle [])) (sym later)
+        (subst (λ (n : ℕ). AreReserved node (book.chain tree) (nodes_of s tree) (gone_of s tree) (root.next + count) (numbered n middle [])) (sym is.first_is)
+        (subst (λ (n : ℕ). AreReserved node (book.chain tree) (nodes_of s tree) (gone_of s tree) (root.next + count) (numbered n middle [])) (ap (λ (t : Tree). t.next) newest)
         (fresh_reserved node (book.chain tree) (nodes_of s tree) (gone_of s tree) top.next (root.next + count) top.level middle chained.levels chained.pages
         (λ page none. absent_kept st stands.holds.gones tree page none)
         (ap (λ (t : Tree). t.next + count) (sym newest) ∙ ap (λ (n : ℕ). top.next + n) (sym so_many)))))

@@ -58,7 +58,7 @@ pub record IsNewestLeaf (nodes : ℕ → List Node) (page : ℕ) (l : Leaf) : Ty
 abbrev pub Reserves : Store → Type 0 → ℕ → Tree → Numbered LeafPart → Option (List ℕ) → Type 0
 Reserves st still tree root new (Some bytes) = (new.behind ≡ []) × IsReservation root (length new.middle) new.first bytes
 Reserves st still tree root new None =
-    still → AreReserved leaf_node (st.book.chain tree) (st.tally.nodes tree) (st.tally.gone tree) (top_of (st.tally.roots tree)).next new.first new.middle new.behind
+    still → AreReserved leaf_node (st.book.chain tree) (st.tally.nodes tree) (st.tally.gone tree) (top_of (st.tally.roots tree)).next new
 
 -- a leaf that was read is the newest of its page while its lease lasts, and what is put are its pieces with the run applied
 pub record PutsPieces (st : Store) (now : ℕ) (lease : Claim) (f : Folding) (run : List PuItem) : Type 0 where

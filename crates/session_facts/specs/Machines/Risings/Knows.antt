@@ -59,7 +59,7 @@ piece_links k first n = links_at (k.level + 1) (drop 1 (map entry_of (on_pages k
 abbrev pub ReservesNodes : Store → Type 0 → ℕ → Tree → Numbered NodePart → Option (List ℕ) → Type 0
 ReservesNodes st still tree root new (Some bytes) = (new.behind ≡ []) × IsReservation root (length new.middle) new.first bytes
 ReservesNodes st still tree root new None =
-    still → AreReserved inner_node (st.book.chain tree) (st.tally.nodes tree) (st.tally.gone tree) (top_of (st.tally.roots tree)).next new.first new.middle new.behind
+    still → AreReserved inner_node (st.book.chain tree) (st.tally.nodes tree) (st.tally.gone tree) (top_of (st.tally.roots tree)).next new
 
 -- what is put are the pieces of a node that was got, with the links that were known; those of its new pieces are noted for the level above
 pub record PutsNode (st : Store) (now : ℕ) (lease : Claim) (r : Rising) : Type 0 where

@@ -26,14 +26,14 @@ abbrev pub numbered : {Piece : Type 0} → ℕ → List Piece → List Piece →
 numbered first middle behind = record { first = first; middle = middle; behind = behind }
 
 -- the numbers from `first` on are these pieces': reserved, in no chain and not removed; those that landed did so once, and the others have no version
-pub record AreReserved {A X : Type 0} (node : Part A X → Node) (chain : ℕ → List Link) (nodes : ℕ → List Node) (gone : ℕ → Bool) (next first : ℕ)
-    (middle behind : List (Part A X)) : Type 0 where
-  pub within : first + (length middle + length behind) ≤ next
-  pub above : (page : ℕ) → first ≤ page → page < first + (length middle + length behind) → 1 < page
-  pub unlinked : (page : ℕ) → first ≤ page → page < first + (length middle + length behind) → IsUnlinked chain page
-  pub there : (page : ℕ) → first ≤ page → page < first + (length middle + length behind) → gone page ≡ false
-  pub absent : (page : ℕ) → first ≤ page → page < first + length middle → nodes page ≡ []
-  pub landed : HaveLanded node nodes (first + length middle) behind
+pub record AreReserved {A X : Type 0} (node : Part A X → Node) (chain : ℕ → List Link) (nodes : ℕ → List Node) (gone : ℕ → Bool) (next : ℕ)
+    (of : Numbered (Part A X)) : Type 0 where
+  pub within : of.first + (length of.middle + length of.behind) ≤ next
+  pub above : (page : ℕ) → of.first ≤ page → page < of.first + (length of.middle + length of.behind) → 1 < page
+  pub unlinked : (page : ℕ) → of.first ≤ page → page < of.first + (length of.middle + length of.behind) → IsUnlinked chain page
+  pub there : (page : ℕ) → of.first ≤ page → page < of.first + (length of.middle + length of.behind) → gone page ≡ false
+  pub absent : (page : ℕ) → of.first ≤ page → page < of.first + length of.middle → nodes page ≡ []
+  pub landed : HaveLanded node nodes (of.first + length of.middle) of.behind
 
 -- a root's next version with so many numbers reserved, from its `next` on, and nothing else changed
 abbrev pub reserving : ℕ → Tree → Tree

@@ -7,7 +7,7 @@ use Rattle.cloud_facts.specs.Homes.Homes.{Part}
 use Rattle.cloud_trait.specs.declared.answer.Answer.TheVariants.{Failed, Memory}
 use Rattle.cloud_trait.specs.declared.turn.CkptAnswer.{CkptAnswer}
 use Rattle.cloud_trait.specs.State.{Counts}
-use Rattle.cloud_trait.specs.Weather.{counted, Weather}
+use Rattle.cloud_trait.specs.Weather.{counted as counted_state, Weather}
 use Rattle.page_ckpt.specs.Paging.{Paging}
 use Rattle.recover_run.specs.declared.stage.RecoverAnswer.{RecoverAnswer}
 use Rattle.recover_run.specs.Recovery.{Recovery}
@@ -103,7 +103,7 @@ module _ (st : Store) (now : ℕ) (m : Settling) (part : Part) (knows : KnowsAtW
     settling_takes_free later after = takes_free (settle_ask m) (leases_of_settling m) s later alone settling_uses after
 
     -- and behind a call that found memory and did not fail it is so again
-    pub settling_alone : (who : Caller) (a : Answer) (c d : Counts) (t : CloudState) → s.now ≤ t.now → Weather who (settle_ask m) a (counted c (called who t.now s)) (counted d t) → a ≢ Failed → a ≢ Memory
+    pub settling_alone : (who : Caller) (a : Answer) (c d : Counts) (t : CloudState) → s.now ≤ t.now → Weather who (settle_ask m) a (counted_state c (called who t.now s)) (counted_state d t) → a ≢ Failed → a ≢ Memory
         → (n : Settling) → SettleLeads m a (Goes n) → HoldsAlone (leases_of_settling n) t
     settling_alone who a c d t later row failed memory n leads =
         subst (λ (cs : List Claim). HoldsAlone cs t) (sym (settling_holds a (Goes n) leads))

@@ -87,8 +87,8 @@ module _ (st : Store) (client : ℕ) (w : Wanted) where
         all_so (λ (y : AtomicItem). HoldsItem y (messages_from kept all.1)) (λ (y : AtomicItem). HoldsItem y (messages_from (x ∷ kept) all)) (λ y h. inr h) kept rest,
       )
 
-  counted : (r : AtomicItem) → IsWanted st client w r → is_counted w r.rec ≡ true
-  counted x k =
+  wanted_counts : (r : AtomicItem) → IsWanted st client w r → is_counted w r.rec ≡ true
+  wanted_counts x k =
       and_from (is_of w x.rec) (nat_le x.rec.index w.count)
       (and_from (x.rec.epoch == w.epoch) (x.rec.txn == w.txn) (eq-eqb x.rec.epoch w.epoch k.epoch_is) (eq-eqb x.rec.txn w.txn k.txn_is)) (le_true x.rec.index w.count k.within)
     where
@@ -107,7 +107,7 @@ module _ (st : Store) (client : ℕ) (w : Wanted) where
       both : (xs : List AtomicItem) → AllByRecursion (IsWanted st client w) xs → AllByRecursion (λ (x : AtomicItem). Brought x (calls_from ask kept all)) xs
           → AllByRecursion (IsKeptRecord w (calls_from ask kept all)) xs
       both [] wanted brought = tt
-      both (x ∷ xs) wanted brought = ((counted x wanted.0, brought.0), both xs wanted.1 brought.1)
+      both (x ∷ xs) wanted brought = ((wanted_counts x wanted.0, brought.0), both xs wanted.1 brought.1)
 
 -- what a receive answered it delivered, or the count of what was withheld rose
 received_row : (who : Caller) (q : QueueName) (a : Answer) (c d : Counts) (b t : CloudState) → Weather who (Receive q 256) a (counted c b) (counted d t) → (ms : List Message) → received_of a ≡ Ok ms

@@ -17,7 +17,7 @@ use Rattle.cloud_trait.specs.Ask.{ListHeld, RemoveHeld}
 use Rattle.cloud_trait.specs.Delivery.{unmarked}
 use Rattle.cloud_trait.specs.Machine.{IsMade}
 use Rattle.cloud_trait.specs.State.{newest_of}
-use Rattle.cloud_trait.specs.Weather.{counted, Weather, Leaves, Fits}
+use Rattle.cloud_trait.specs.Weather.{counted as counted_state, Weather, Leaves, Fits}
 use Rattle.cloud_trait.proofs.RowLemmas.{row_versions}
 use Rattle.db_base.specs.declared.names.Lock.TheVariants as lock
 use Rattle.db_base.specs.declared.names.ObjName.TheVariants as object
@@ -53,12 +53,12 @@ LeadsOver first [] now = now ≡ first
 LeadsOver first (d ∷ h) now = (b : CloudState) × LeadsOver first h b × IsMade d × (d.before.state ≡ Some b) × (d.after.state ≡ Some now)
 
 -- the row of a call
-pub deed_row : (d : Deed) (b t : CloudState) → IsMade d → d.before.state ≡ Some b → d.after.state ≡ Some t → Weather d.who d.ask d.answer (counted d.before.counts (called d.who t.now b)) (counted d.after.counts t)
+pub deed_row : (d : Deed) (b t : CloudState) → IsMade d → d.before.state ≡ Some b → d.after.state ≡ Some t → Weather d.who d.ask d.answer (counted_state d.before.counts (called d.who t.now b)) (counted_state d.after.counts t)
 deed_row d b t made before after = on (made.state b before)
   where
-    on : Leaves d.who d.ask d.answer (counted d.before.counts b) d.after.counts d.after.state → Weather d.who d.ask d.answer (counted d.before.counts (called d.who t.now b)) (counted d.after.counts t)
+    on : Leaves d.who d.ask d.answer (counted_state d.before.counts b) d.after.counts d.after.state → Weather d.who d.ask d.answer (counted_state d.before.counts (called d.who t.now b)) (counted_state d.after.counts t)
     on l =
-        subst (λ (u : CloudState). Weather d.who d.ask d.answer (counted d.before.counts (called d.who u.now b)) (counted d.after.counts u)) (same_Some l.after t (sym l.told ∙ after)) l.row
+        subst (λ (u : CloudState). Weather d.who d.ask d.answer (counted_state d.before.counts (called d.who u.now b)) (counted_state d.after.counts u)) (same_Some l.after t (sym l.told ∙ after)) l.row
 
 -- ---- what the held get read
 
@@ -114,7 +114,7 @@ module _ (client : ℕ) (first : CloudState) where
   taken_same (d ∷ []) b k l are (a, same, made, before, after) =
       let one : d.ask ≡ Take (lock.Client k) 600 = ap first_ask are in
       let row = deed_row d a b made before after in
-      let taken = subst (λ ask. Weather d.who ask d.answer (counted d.before.counts (called d.who b.now a)) (counted d.after.counts b)) one row in
+      let taken = subst (λ ask. Weather d.who ask d.answer (counted_state d.before.counts (called d.who b.now a)) (counted_state d.after.counts b)) one row in
       ap (λ (f : ObjName → List Version). newest_of (f name)) (row_versions d.who (Take (lock.Client k) 600) d.answer d.before.counts d.after.counts (called d.who b.now a) b taken tt)
       ∙ ap (λ (s : CloudState). newest s name) same
     where
@@ -150,8 +150,8 @@ module _ (client : ℕ) (first : CloudState) where
       reads : (n : ObjName) (l : Claim) (v : Option (List ℕ)) → d.ask ≡ GetHeld n l → d.answer ≡ Got v → v ≡ newest first name
       reads n l v e f =
           let at = asks_get r.stage r n l (sym asks ∙ e) in
-          let row = subst (λ a. Weather d.who (GetHeld n l) a (counted d.before.counts (called d.who t.now b)) (counted d.after.counts t)) f
-          (subst (λ ask. Weather d.who ask d.answer (counted d.before.counts (called d.who t.now b)) (counted d.after.counts t)) e (deed_row d b t made before after)) in
+          let row = subst (λ a. Weather d.who (GetHeld n l) a (counted_state d.before.counts (called d.who t.now b)) (counted_state d.after.counts t)) f
+          (subst (λ ask. Weather d.who ask d.answer (counted_state d.before.counts (called d.who t.now b)) (counted_state d.after.counts t)) e (deed_row d b t made before after)) in
           row.2 ∙ (ap (newest b) (named n l at (sym asks ∙ e)) ∙ taken at)
 
   all_read : (h : List Deed) (r : Recovery) (now : CloudState) → Went client Settling None h r → LeadsOver first h now → AllByRecursion (ReadsAs (newest first name)) (calls_of h)

@@ -6,7 +6,7 @@ use Rattle.byte_format.specs.Whole.{IsBytes}
 use Rattle.db_base.specs.declared.trouble.Trouble.{Trouble}
 use Rattle.cloud_trait.specs.declared.answer.Answer.{Answer}
 use Rattle.attr_index.proofs.Words.{Records, Caller, Deed, Ends, Goes, Next, Stops, Seen, Turn, Ended, More, Stopped}
-use Rattle.cloud_trait.specs.Machine.{LeadsBy, Took}
+use Rattle.cloud_trait.specs.Machine.{LeadsBy, Took, occasion_of}
 use Rattle.txn_buffer.specs.Noted.{AreDistinct}
 use Rattle.page_cache.specs.Cache.{Cache}
 use Rattle.tree_walk.specs.Moves.{Moves}
@@ -93,7 +93,7 @@ on_trans c d e one other = λ name. omega (arith, one name, other name)
 -- a step of the walk, and what it went on to
 pub look_stepped : (own : Own) (who : Caller) (before after : Seen) (old new : Look × Cache) (w : Walk × Cache) (moved : Turn ℕ) (turn : Turn (Unit {0}))
     → StepsWalk who before after (old.0.walk, old.1) w moved → ((page : ℕ) → moved ≡ Ended page → IsAtLeaf w.0 w.1 page) → Moves (walked_by old.0 own w moved) new turn
-    → ServesOn w.1 new.1 → AreDistinct own.buffer → Stepped own who before after old new turn
+    → ServesOn w.1 new.1 → AreDistinct own.buffer → Stepped own (occasion_of who before after) old new turn
 look_stepped own who before after old new w moved turn walked at goes on apart =
     let d : Deed = deed_of who old walked.answer before after in
     let served : ServesOn old.1 new.1 = on_trans old.1 w.1 new.1 walked.served on in

@@ -4,7 +4,7 @@ use Rattle.cloud_trait.specs.declared.answer.Answer.{Answer}
 use Rattle.cloud_trait.specs.declared.turn.Turn.{Turn}
 use Rattle.cloud_trait.specs.declared.turn.Turn.TheVariants.{More, Ended, Stopped}
 use Rattle.cloud_trait.specs.Caller.{Caller}
-use Rattle.cloud_trait.specs.Machine.{LeadsBy, Took, Deed}
+use Rattle.cloud_trait.specs.Machine.{LeadsBy, Took, Deed, Occasion}
 use Rattle.cloud_trait.specs.Seen.{Seen}
 use Rattle.page_cache.specs.Cache.{Cache}
 use Rattle.tree_walk.specs.Moves.{Moves}
@@ -28,11 +28,11 @@ Means q own vs new More = new.query ≡ q
 Means q own vs new (Ended done) = IsFound q own vs new.pairs
 Means q own vs new (Stopped t) = Unit {0}
 
-pub record Stepped (own : Own) (who : Caller) (before after : Seen) (old new : Look × Cache) (turn : Turn (Unit {0})) : Type 0 where
+pub record Stepped (own : Own) (on : Occasion) (old new : Look × Cache) (turn : Turn (Unit {0})) : Type 0 where
   -- the step of its walk, with all that a walk's step says: its call, where it led, why it stopped and when it has to
   pub walk : Walk × Cache
   pub moved : Turn ℕ
-  pub walked : StepsWalk who before after (old.0.walk, old.1) walk moved
+  pub walked : StepsWalk on.who on.before on.after (old.0.walk, old.1) walk moved
   -- where its walk ended the leaf stands in the cache
   pub at_leaf : (page : ℕ) → moved ≡ Ended page → IsAtLeaf walk.0 walk.1 page
   -- it goes on from there without a call
@@ -42,7 +42,7 @@ pub record Stepped (own : Own) (who : Caller) (before after : Seen) (old new : L
   pub served : ServesOn old.1 new.1
   -- by the whole run
   pub means : (q : Query) (h : List Deed) (vs : List Visit) → Looked q own h vs old
-      → (let d : Deed = deed_of who old walked.answer before after in Means q own (visited old.0 d (leaf_by old d) vs) new.0 turn)
+      → (let d : Deed = deed_of on.who old walked.answer on.before on.after in Means q own (visited old.0 d (leaf_by old d) vs) new.0 turn)
   -- .. and at its end the records found are all that have the attribute, where everything is still
   pub tagged : turn ≡ Ended tt → (q : Query) (h : List Deed) (vs : List Visit) → Looked q own h vs old
-      → (let d : Deed = deed_of who old walked.answer before after in FindsTagged q own (visited old.0 d (leaf_by old d) vs) new.0.pairs)
+      → (let d : Deed = deed_of on.who old walked.answer on.before on.after in FindsTagged q own (visited old.0 d (leaf_by old d) vs) new.0.pairs)

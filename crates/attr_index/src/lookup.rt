@@ -2,7 +2,7 @@ ghost use Rattle.std.specs.Prelude.{◌≡◌, ◌≢◌, ◌<◌, ◌≤◌, �
 ghost use Rattle.std.specs.Option.{option_copied};
 ghost use Rattle.db_base.specs.Ids.{index_of};
 ghost use Rattle.cloud_trait.specs.Call.{ask_of};
-ghost use Rattle.cloud_trait.specs.Machine.{Goes, Stops, Deed};
+ghost use Rattle.cloud_trait.specs.Machine.{Goes, Stops, Deed, occasion_of};
 ghost use Rattle.tree_walk.specs.Moves.{Moves};
 ghost use Rattle.tree_walk.specs.Walk.{ServesOn};
 
@@ -330,7 +330,7 @@ impl Lookup {
         own: &Own<'_>,
     ) -> Turn<()>
         // Its one call, and what that comes to.
-        ensures stepped { Stepped own.now who (C.seen cloud.old) (C.seen cloud.new) (self.old, cache.old) (self.new, cache.new) result }
+        ensures stepped { Stepped own.now (occasion_of who (C.seen cloud.old) (C.seen cloud.new)) (self.old, cache.old) (self.new, cache.new) result }
         // Each call comes to one more page of a walk, each walk to a key above those before it, or to one listed record less.
         ensures less { result ≡ Turn.More → calls_left self.new < calls_left self.old }
         // By the whole run its calls are those of one walk for each leaf that it came to and of the walk in hand, each of which comes to a page once.

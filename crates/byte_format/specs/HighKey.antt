@@ -4,9 +4,13 @@ use Rattle.std.specs.Int.{w8}
 use Rattle.byte_format.specs.Format.{Format, text, ruled, only_where}
 use Rattle.byte_format.specs.Order.{bytes_below}
 
+-- the longest high key, in bytes
+abbrev pub longest_high : ℕ
+longest_high = 64
+
 -- a key above the low key
 abbrev pub key_above : List ℕ → Format (List ℕ)
-key_above low = ruled (bytes_below low) (text w8 1 64)
+key_above low = ruled (bytes_below low) (text w8 1 longest_high)
 
 -- it is there exactly where there is a right page
 abbrev pub high_key : List ℕ → ℕ → Format (Option (List ℕ))

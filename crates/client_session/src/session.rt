@@ -132,7 +132,7 @@ impl<H: Hand> Session<H> {
         ensures indexed { OnOk result (MayIndex tree key attr) }
         ensures err { OnErr result (self.new ≡ self.old) }
         ensures cause { IfErr result (PutRefused self.old tree key payload attr) }
-        ensures above { (result ≡ Err (Refused.Rule Refusal.BadNumber)) ↔ (8 < tree) }
+        ensures above { (result ≡ Err (Refused.Rule Refusal.BadNumber)) ↔ (last_indexed < tree) }
         ensures long { (result ≡ Err (Refused.Rule Refusal.LongEntry))
             ↔ ((tree ≤ last_indexed) × (longest_key < length (entry_bytes attr key))) }
         ensures few { OnOk result (length self.new.buffer ≤ most_changes) }

@@ -10,7 +10,7 @@ use Rattle.cloud_trait.specs.declared.turn.Turn.{Turn}
 use Rattle.cloud_trait.specs.declared.turn.Turn.TheVariants.{More, Ended, Stopped}
 use Rattle.cloud_trait.specs.Ask.{Ask}
 use Rattle.cloud_trait.specs.Caller.{Caller}
-use Rattle.cloud_trait.specs.Machine.{Next, Goes, Ends, Stops, LeadsBy, Steps, Deed, Came}
+use Rattle.cloud_trait.specs.Machine.{Next, Goes, Ends, Stops, LeadsBy, Steps, Deed, Came, occasion_of, machine_by}
 use Rattle.cloud_trait.specs.Seen.{Seen}
 use Rattle.page_cache.specs.Cache.{Cache}
 use Rattle.tree_walk.specs.Served.{deed_of as walk_deed}
@@ -20,7 +20,7 @@ use Rattle.client_work.proofs.Looks.{ready_walked, step_walked}
 use Rattle.recover_run.specs.declared.home.Home.{Home}
 use Rattle.recover_run.specs.declared.stage.Aim.TheVariants as aim
 use Rattle.recover_run.specs.Recovery.{Recovery, new_recovery, recovery_ask, recovery_next, KeepsLeases}
-use Rattle.commit_run.specs.Run.{Run, asks as run_asks, run_next, KeepsHome}
+use Rattle.commit_run.specs.Run.{Run, asks as run_asks, run_next, KeepsHome, run_machine}
 use Rattle.page_ckpt.specs.Paging.{Paging as Page, Step as PageStep, new_paging, paging_ask, PagingLeads, KeepsLeases as KeepsPageLeases}
 use Rattle.page_ckpt.specs.Leases.{fresh as fresh_page}
 use Rattle.page_ckpt.proofs.Outcomes as outcome
@@ -49,7 +49,7 @@ use Rattle.client_work.proofs.Sweeps.{sweeps_on}
 
 -- the calls with one more, of which nothing is told
 module _ {M A : Type 0} (ask : M → Ask) (leads : M → Heard → Next M A → Type 0) (keeps : M → Heard → M → Type 0) (who : Caller) (before after : Seen) where
-  pub came_more : (start old new : M) (h : List Deed) → Steps ask leads keeps who before after old new More → Came ask leads start h old → IsUntold h
+  pub came_more : (start old new : M) (h : List Deed) → Steps (machine_by ask leads keeps) (occasion_of who before after) old new More → Came ask leads start h old → IsUntold h
       → (g : List Deed) × Came ask leads start g new × IsUntold g
   came_more start old new h steps came is =
       let d : Deed = deed_by who (ask old) steps.answer (untold before) (untold after) in
@@ -190,7 +190,7 @@ module _ (who : Caller) (before after : Seen) (buffer : List Noted) (c d : Cache
   commit_come : (m : Run) (left : Work) (turn : Turn Answer) → HasCome (Committing m) c → StepsAt who before after (Committing m) left turn
       → MachineSteps who before after (Committing m, c) (left, d) turn → HasCome left d
   commit_come m left More (home, changes, first, h, some, (start, ready, came), is) steps (n, stepped, left_is) =
-      let did : Steps run_asks (LeadsBy run_next) KeepsHome who before after (m, c) (n, d) More = record { answer = stepped.answer; made = stepped.made; took = stepped.took } in
+      let did : Steps run_machine (occasion_of who before after) (m, c) (n, d) More = record { answer = stepped.answer; made = stepped.made; took = stepped.took } in
       let more = came_more run_asks (LeadsBy run_next) KeepsHome who before after start (m, c) (n, d) h did came is in
       come_as left (Committing n) d left_is (home, changes, first, more.0, some, (start, ready, more.1), more.2)
   commit_come m left (Ended (answer.Commit a)) came steps machine = rest_come left d (rest_as left (committed_work a _) steps.3.2 (committed_rests a _))

@@ -10,6 +10,7 @@ use Rattle.cloud_trait.specs.Caller.{Caller}
 use Rattle.cloud_trait.specs.Claim.{Claim}
 use Rattle.cloud_trait.specs.Seen.{Seen}
 use Rattle.cloud_trait.specs.Views.{done_of, renewed_of}
+use Rattle.cloud_trait.specs.Machine.{occasion_of}
 use Rattle.page_cache.specs.Cache.{Cache}
 use Rattle.tree_walk.specs.Stepped.{Stepped as StepsWalk}
 use Rattle.tree_walk.specs.Walk.{Walk}
@@ -129,7 +130,7 @@ module _ (who : Caller) (before after : Seen) (buffer : List Noted) (c d : Cache
   looking_causes : (home : Home) (m : Look) (left : Work) (shown : Shown) (turn : Turn Answer) → HasCome (Looking home m) c
       → LooksBy who before after (in_hand home m c) (acting_of buffer left d shown) turn → CausesAt who before after (Looking home m, c) (left, d) turn
   looking_causes home m left shown turn (start, h, begun, walked) looks = by turn looks where
-    on : (n : Look) (t : Turn (Unit {0})) → StepsLook (own_of home buffer) who before after (m, c) (n, d) t → LookingCauses who before after (m, c) (n, d) t
+    on : (n : Look) (t : Turn (Unit {0})) → StepsLook (own_of home buffer) (occasion_of who before after) (m, c) (n, d) t → LookingCauses who before after (m, c) (n, d) t
     on n t stepped =
         record { start = start; earlier = h; begun = begun; walked = walked; own = own_of home buffer; stepped = stepped; led = stepped.walked.led start begun h walked }
 

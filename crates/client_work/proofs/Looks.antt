@@ -7,7 +7,7 @@ use Rattle.leaf_view.specs.Leaf.{Leaf}
 use Rattle.cloud_trait.specs.declared.turn.Turn.{Turn}
 use Rattle.cloud_trait.specs.declared.turn.Turn.TheVariants.{More, Ended, Stopped}
 use Rattle.cloud_trait.specs.Caller.{Caller}
-use Rattle.cloud_trait.specs.Machine.{Next, Goes, Ends, Stops, LeadsBy, Took, Deed}
+use Rattle.cloud_trait.specs.Machine.{Next, Goes, Ends, Stops, LeadsBy, Took, Deed, occasion_of}
 use Rattle.cloud_trait.specs.Seen.{Seen}
 use Rattle.page_cache.specs.Cache.{Cache}
 use Rattle.tree_walk.specs.Meaning.{Walked}
@@ -70,7 +70,7 @@ pub ready_walked : (q : Query) (c : Cache) (m : Look × Cache) → look_ready q 
 ready_walked q c m ready = subst GoesWalked ready (new_walked (new_look q) (index_of q.tree) (prefix_of q.attr) c)
 
 -- .. and goes on so: with the same walk, one call further, or with a new one
-pub step_walked : (own : Own) (who : Caller) (before after : Seen) (old new : Look × Cache) → Stepped own who before after old new More → HasWalked (old.0.walk, old.1)
+pub step_walked : (own : Own) (who : Caller) (before after : Seen) (old new : Look × Cache) → Stepped own (occasion_of who before after) old new More → HasWalked (old.0.walk, old.1)
     → HasWalked (new.0.walk, new.1)
 step_walked own who before after old new p (start, h, begun, came) = subst GoesWalked p.goes (turn_walked (record old.0 { walk = p.walk.0 }) own p.walk.1 p.moved goes) where
   goes : p.moved ≡ More → HasWalked p.walk
@@ -98,7 +98,7 @@ ready_looked q own c m ready =
     (c, refl, subst (λ (of : Query). look_ready of c ≡ Goes m) (sym same) ready)
 
 -- a step that goes on is one more of its calls, with a leaf more where its walk ended
-pub step_looked : (own : Own) (who : Caller) (before after : Seen) (old new : Look × Cache) (h : List Deed) (vs : List Visit) (p : Stepped own who before after old new More)
+pub step_looked : (own : Own) (who : Caller) (before after : Seen) (old new : Look × Cache) (h : List Deed) (vs : List Visit) (p : Stepped own (occasion_of who before after) old new More)
     → Looked old.0.query own h vs old
     → Looked new.0.query own (deed_of who old p.walked.answer before after ∷ h) (visited old.0 (deed_of who old p.walked.answer before after) (leaf_by old (deed_of who old p.walked.answer before after)) vs) new
 step_looked own who before after old new h vs p came =

@@ -5,11 +5,11 @@ use Rattle.cloud_trait.specs.declared.turn.Turn.{Turn}
 use Rattle.cloud_trait.specs.declared.turn.Turn.TheVariants.{More}
 use Rattle.cloud_trait.specs.Ask.{Ask}
 use Rattle.cloud_trait.specs.Caller.{Caller}
-use Rattle.cloud_trait.specs.Machine.{Deed, Follows, Steps, Took}
+use Rattle.cloud_trait.specs.Machine.{Deed, Follows, Steps, Took, occasion_of}
 use Rattle.cloud_trait.specs.Seen.{Seen}
 use Rattle.cloud_trait.specs.Weather.{Makes}
 use Rattle.settle_run.specs.declared.settled.Settled.{Settled}
-use Rattle.settle_run.specs.Settling.{Settling, settle_ask, SettleLeads, KeepsSettling}
+use Rattle.settle_run.specs.Settling.{Settling, settle_ask, SettleLeads, KeepsSettling, settling_machine}
 use Rattle.client_work.specs.Settling.{IsSettling, IsUntold}
 
 -- what is seen of a cloud but for what it tells
@@ -37,7 +37,7 @@ pub follows_untold : (h : List Deed) (d : Deed) → IsUntold h → Follows h d
 follows_untold [] d is = tt
 follows_untold (last ∷ h) d is = λ s t e f. absurd (none_some s (subst (λ o. o ≡ Some s) is e))
 
-pub settles_on : (who : Caller) (before after : Seen) (old new : Settling) (turn : Turn Settled) → Steps settle_ask SettleLeads KeepsSettling who before after old new turn → turn ≡ More
+pub settles_on : (who : Caller) (before after : Seen) (old new : Settling) (turn : Turn Settled) → Steps settling_machine (occasion_of who before after) old new turn → turn ≡ More
     → IsSettling old → IsSettling new
 settles_on who before after old new turn steps more (h, went, is) =
     let At : Turn Settled → Type 0 = Took SettleLeads KeepsSettling old steps.answer new in

@@ -17,7 +17,7 @@ use Rattle.cloud_trait.specs.declared.turn.Turn.{Turn}
 use Rattle.cloud_trait.specs.declared.turn.Turn.TheVariants.{More, Ended, Stopped}
 use Rattle.cloud_trait.specs.Ask.{Get}
 use Rattle.cloud_trait.specs.Caller.{Caller}
-use Rattle.cloud_trait.specs.Machine.{Deed}
+use Rattle.cloud_trait.specs.Machine.{Deed, occasion_of}
 use Rattle.cloud_trait.specs.Seen.{Seen}
 use Rattle.page_cache.specs.Cache.{Cache}
 use Rattle.page_cache.specs.Held.{leaf_at, as_leaf}
@@ -273,13 +273,13 @@ LookShows who before after home buffer m c shown (Ended answer.Value) = ⊥
 LookShows who before after home buffer m c shown turn = Unit {0}
 
 module _ (who : Caller) (before after : Seen) (home : Home) (buffer : List Noted) (m : Look) (c d : Cache) (way : IsLooking home buffer m c) where
-  looks_on : (n : Look) → StepsLook (own_of home buffer) who before after (m, c) (n, d) More → IsLooking home buffer n d
+  looks_on : (n : Look) → StepsLook (own_of home buffer) (occasion_of who before after) (m, c) (n, d) More → IsLooking home buffer n d
   looks_on n p =
       let x : Deed = look_deed who m p.walked.answer before after in
       let came = step_looked (own_of home buffer) who before after (m, c) (n, d) way.calls way.visits p way.came in
       record { calls = x ∷ way.calls; visits = visited m x (leaf_by (m, c) x) way.visits; came = came }
 
-  finds : (n : Look) → StepsLook (own_of home buffer) who before after (m, c) (n, d) (Ended tt) → ShowsFound who before after buffer (in_hand home m c) n.pairs
+  finds : (n : Look) → StepsLook (own_of home buffer) (occasion_of who before after) (m, c) (n, d) (Ended tt) → ShowsFound who before after buffer (in_hand home m c) n.pairs
   finds n p =
       let found = p.means m.query way.calls way.visits way.came in
       record { calls = way.calls; visits = way.visits; came = way.came; answer = p.walked.answer; made = p.walked.made; found = found }

@@ -4,11 +4,11 @@ use Rattle.cloud_trait.specs.declared.answer.Answer.{Answer}
 use Rattle.cloud_trait.specs.declared.turn.Turn.{Turn}
 use Rattle.cloud_trait.specs.declared.turn.Turn.TheVariants.{More}
 use Rattle.cloud_trait.specs.Caller.{Caller}
-use Rattle.cloud_trait.specs.Machine.{Goes, Ends, Stops, LeadsBy, Deed, Came, Steps, Took}
+use Rattle.cloud_trait.specs.Machine.{Goes, Ends, Stops, LeadsBy, Deed, Came, Steps, Took, occasion_of}
 use Rattle.cloud_trait.specs.Seen.{Seen}
 use Rattle.orphan_sweep.specs.declared.swept.Swept.{Swept}
 use Rattle.orphan_sweep.specs.Leases.{fresh}
-use Rattle.orphan_sweep.specs.Sweeping.{Sweeping, Step, new_sweeping, sweep_ask, sweep_next, KeepsLease}
+use Rattle.orphan_sweep.specs.Sweeping.{Sweeping, Step, new_sweeping, sweep_ask, sweep_next, KeepsLease, sweep_machine}
 use Rattle.orphan_sweep.proofs.Outcomes as outcome
 use Rattle.client_work.specs.Sweeping.{IsSweeping}
 use Rattle.client_work.proofs.Settles.{untold, made_untold, follows_untold}
@@ -41,7 +41,7 @@ fresh_again s q a leads = let same : q.tree ≡ s.tree = comes_same (outcome.cam
 
 -- ---- .. and goes on
 
-pub sweeps_on : (who : Caller) (before after : Seen) (old new : Sweeping) (turn : Turn Swept) → Steps sweep_ask (LeadsBy sweep_next) KeepsLease who before after old new turn → turn ≡ More
+pub sweeps_on : (who : Caller) (before after : Seen) (old new : Sweeping) (turn : Turn Swept) → Steps sweep_machine (occasion_of who before after) old new turn → turn ≡ More
     → IsSweeping old → IsSweeping new
 sweeps_on who before after old new turn steps more (h, went, is) =
     let At : Turn Swept → Type 0 = Took (LeadsBy sweep_next) KeepsLease old steps.answer new in

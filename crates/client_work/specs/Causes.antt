@@ -13,7 +13,7 @@ use Rattle.cloud_trait.specs.declared.turn.Turn.TheVariants.{More, Ended, Stoppe
 use Rattle.cloud_trait.specs.Ask.{Ask, Renew, Release}
 use Rattle.cloud_trait.specs.Caller.{Caller}
 use Rattle.cloud_trait.specs.Claim.{Claim}
-use Rattle.cloud_trait.specs.Machine.{Deed}
+use Rattle.cloud_trait.specs.Machine.{Deed, occasion_of}
 use Rattle.cloud_trait.specs.Seen.{Seen}
 use Rattle.cloud_trait.specs.Views.{done_of, renewed_of}
 use Rattle.cloud_trait.specs.Weather.{Makes}
@@ -193,7 +193,7 @@ pub record LookingCauses (who : Caller) (before after : Seen) (old new : Look ×
   pub begun : IsBegun start
   pub walked : Walked start earlier (old.0.walk, old.1)
   pub own : Own
-  pub stepped : StepsLook own who before after old new turn
+  pub stepped : StepsLook own (occasion_of who before after) old new turn
   pub led : LedBy (began_with start begun) earlier (walk_deed who (old.0.walk, old.1) stepped.walked.answer before after) (old.0.walk, old.1) stepped.walked.answer
 
 -- of a page checkpoint: as of an opening

@@ -23,7 +23,7 @@ use Rattle.cloud_trait.specs.declared.turn.Turn.TheVariants.{More, Ended, Stoppe
 use Rattle.cloud_trait.specs.Ask.{Ask, Renew, Release}
 use Rattle.cloud_trait.specs.Caller.{Caller}
 use Rattle.cloud_trait.specs.Claim.{Claim}
-use Rattle.cloud_trait.specs.Machine.{Goes, Ends, Stops, LeadsBy, Steps}
+use Rattle.cloud_trait.specs.Machine.{Goes, Ends, Stops, Steps, occasion_of}
 use Rattle.cloud_trait.specs.Seen.{Seen}
 use Rattle.cloud_trait.specs.Views.{done_of, renewed_of}
 use Rattle.cloud_trait.specs.Weather.{leased, Makes, RenewsLease}
@@ -31,7 +31,7 @@ use Rattle.recover_run.specs.declared.home.Home.{Home}
 use Rattle.recover_run.specs.declared.stage.Aim.TheVariants as aim
 use Rattle.recover_run.specs.declared.stage.RecoverAnswer.TheVariants.{Opened}
 use Rattle.recover_run.specs.End.{calls_left as recovery_left}
-use Rattle.recover_run.specs.Recovery.{Recovery, new_recovery, recovery_ask, recovery_next, home_of, KeepsLeases, IsSound as IsSoundOpening}
+use Rattle.recover_run.specs.Recovery.{Recovery, new_recovery, recovery_ask, home_of, IsSound as IsSoundOpening, recovery_machine}
 use Rattle.leaf_view.specs.Leaf.{Entry}
 use Rattle.page_cache.specs.Cache.{Cache, empty_cache}
 use Rattle.page_cache.specs.Held.{leaf_at}
@@ -39,7 +39,7 @@ use Rattle.tree_walk.specs.Moves.{Moves}
 use Rattle.tree_walk.specs.Stepped.{Stepped as StepsWalk}
 use Rattle.tree_walk.specs.Walk.{Walk, new_walk, walk_ask, walk_ready, calls_left as reading_left, IsAtLeaf}
 use Rattle.commit_run.specs.End.{calls_left as commit_left}
-use Rattle.commit_run.specs.Run.{Run, new_run, home_of as home_of_run, run_ask, asks as run_asks, run_ready, run_next, run_opens, KeepsHome}
+use Rattle.commit_run.specs.Run.{Run, new_run, home_of as home_of_run, run_ask, run_ready, run_opens, run_machine}
 use Rattle.commit_run.specs.Sound.{IsSoundRun}
 use Rattle.record_read.specs.Read.{read_value}
 use Rattle.range_scan.specs.End.{calls_left as scanning_left}
@@ -50,10 +50,10 @@ use Rattle.attr_index.specs.End.{calls_left as looking_left}
 use Rattle.attr_index.specs.Look.{Query, Look, look_ask, look_ready}
 use Rattle.attr_index.specs.Stepped.{Stepped as StepsLook}
 use Rattle.page_ckpt.specs.End.{calls_left as paging_left}
-use Rattle.page_ckpt.specs.Paging.{new_paging, paging_ask, PagingLeads, KeepsLeases as KeepsPageLeases, Paging as Page}
+use Rattle.page_ckpt.specs.Paging.{new_paging, paging_ask, Paging as Page, paging_machine}
 use Rattle.tree_ckpt.specs.Work.{applying_in}
 use Rattle.tree_ckpt.specs.End.{calls_in}
-use Rattle.tree_ckpt.specs.Making.{Making, new_making, making_ask, MakingLeads, KeepsLeases as KeepsTreeLeases}
+use Rattle.tree_ckpt.specs.Making.{Making, new_making, making_ask, making_machine}
 use Rattle.settle_run.specs.End.{calls_left as settling_left}
 use Rattle.settle_run.specs.Meaning.{Stepped as SettlingStepped}
 use Rattle.settle_run.specs.Parts.{part_applying, IsSoundPart}
@@ -375,22 +375,22 @@ opening_left m = recovery_left (2 ^ 64) 255 m
 -- one step of an opening, and what it leaves in hand
 abbrev pub StepsOpening : Caller → Seen → Seen → Recovery → Work → Turn Answer → Type 0
 StepsOpening who before after old work More =
-    (m : Recovery) × Steps recovery_ask (LeadsBy recovery_next) KeepsLeases who before after old m More × (work ≡ Opening m) × (opening_left m < opening_left old)
+    (m : Recovery) × Steps recovery_machine (occasion_of who before after) old m More × (work ≡ Opening m) × (opening_left m < opening_left old)
 StepsOpening who before after old work (Ended (answer.Opened epoch)) =
-    (m : Recovery) × Steps recovery_ask (LeadsBy recovery_next) KeepsLeases who before after old m (Ended (Opened epoch)) × (work ≡ opened_work (home_of m))
+    (m : Recovery) × Steps recovery_machine (occasion_of who before after) old m (Ended (Opened epoch)) × (work ≡ opened_work (home_of m))
 StepsOpening who before after old work (Ended (answer.Trouble k)) =
-    (m : Recovery) × Steps recovery_ask (LeadsBy recovery_next) KeepsLeases who before after old m (Stopped k) × (work ≡ Closed)
+    (m : Recovery) × Steps recovery_machine (occasion_of who before after) old m (Stopped k) × (work ≡ Closed)
 StepsOpening who before after old work turn = ⊥
 
 -- one step of a commit beside the cache, and what it leaves in hand
 abbrev pub StepsCommit : Caller → Seen → Seen → Run × Cache → Work × Cache → Turn Answer → Type 0
 StepsCommit who before after old (work, c) More =
-    (m : Run) × Steps run_asks (LeadsBy run_next) KeepsHome who before after old (m, c) More
+    (m : Run) × Steps run_machine (occasion_of who before after) old (m, c) More
     × (work ≡ Committing m) × (commit_left m < commit_left old.0)
 StepsCommit who before after old (work, c) (Ended (answer.Commit a)) =
-    (m : Run) × Steps run_asks (LeadsBy run_next) KeepsHome who before after old (m, c) (Ended a) × (work ≡ committed_work a (home_of_run m))
+    (m : Run) × Steps run_machine (occasion_of who before after) old (m, c) (Ended a) × (work ≡ committed_work a (home_of_run m))
 StepsCommit who before after old (work, c) (Ended (answer.Trouble k)) =
-    (m : Run) × Steps run_asks (LeadsBy run_next) KeepsHome who before after old (m, c) (Stopped k) × (work ≡ Broken (home_of_run m).lease)
+    (m : Run) × Steps run_machine (occasion_of who before after) old (m, c) (Stopped k) × (work ≡ Broken (home_of_run m).lease)
 StepsCommit who before after old (work, c) turn = ⊥
 
 -- what a commit leaves in hand whose newest step came to this
@@ -472,34 +472,34 @@ pub record StepsScanning (who : Caller) (before after : Seen) (old : InHand List
 -- one step of a look-up beside the cache: what is got goes into it, and at the end the records found are shown
 abbrev pub LooksBy : Caller → Seen → Seen → InHand Look → Acting → Turn Answer → Type 0
 LooksBy who before after old new More =
-    (m : Look) × StepsLook (own_of old.home new.buffer) who before after (old.machine, old.cache) (m, new.cache) More
+    (m : Look) × StepsLook (own_of old.home new.buffer) (occasion_of who before after) (old.machine, old.cache) (m, new.cache) More
     × (new.work ≡ Looking old.home m) × (new.shown ≡ Nothing) × (looking_left m < looking_left old.machine)
 LooksBy who before after old new (Ended answer.Scan) =
-    (m : Look) × StepsLook (own_of old.home new.buffer) who before after (old.machine, old.cache) (m, new.cache) (Ended tt)
+    (m : Look) × StepsLook (own_of old.home new.buffer) (occasion_of who before after) (old.machine, old.cache) (m, new.cache) (Ended tt)
     × (new.work ≡ Idle old.home) × (new.shown ≡ Listed m.pairs)
 LooksBy who before after old new (Ended (answer.Trouble k)) =
-    (m : Look) × StepsLook (own_of old.home new.buffer) who before after (old.machine, old.cache) (m, new.cache) (Stopped k)
+    (m : Look) × StepsLook (own_of old.home new.buffer) (occasion_of who before after) (old.machine, old.cache) (m, new.cache) (Stopped k)
     × (new.work ≡ stopped_work k old.home) × (new.shown ≡ Nothing)
 LooksBy who before after old new turn = ⊥
 
 -- one step of a page checkpoint, and what it leaves in hand
 abbrev pub StepsPaging : Caller → Seen → Seen → Home × Page → Work → Turn Answer → Type 0
 StepsPaging who before after (home, old) work More =
-    (m : Page) × Steps paging_ask PagingLeads KeepsPageLeases who before after old m More × (work ≡ Paging home m) × (paging_left m < paging_left old)
+    (m : Page) × Steps paging_machine (occasion_of who before after) old m More × (work ≡ Paging home m) × (paging_left m < paging_left old)
 StepsPaging who before after (home, old) work (Ended (answer.Done n)) =
-    (m : Page) × Steps paging_ask PagingLeads KeepsPageLeases who before after old m (Ended n) × (work ≡ Idle home)
+    (m : Page) × Steps paging_machine (occasion_of who before after) old m (Ended n) × (work ≡ Idle home)
 StepsPaging who before after (home, old) work (Ended (answer.Trouble k)) =
-    (m : Page) × Steps paging_ask PagingLeads KeepsPageLeases who before after old m (Stopped k) × (work ≡ stopped_work k home)
+    (m : Page) × Steps paging_machine (occasion_of who before after) old m (Stopped k) × (work ≡ stopped_work k home)
 StepsPaging who before after (home, old) work turn = ⊥
 
 -- one step of a tree checkpoint, and what it leaves in hand
 abbrev pub StepsFolding : Caller → Seen → Seen → Home × Making → Work → Turn Answer → Type 0
 StepsFolding who before after (home, old) work More =
-    (m : Making) × Steps making_ask MakingLeads KeepsTreeLeases who before after old m More × (work ≡ Folding home m) × (calls_in m.work < calls_in old.work)
+    (m : Making) × Steps making_machine (occasion_of who before after) old m More × (work ≡ Folding home m) × (calls_in m.work < calls_in old.work)
 StepsFolding who before after (home, old) work (Ended (answer.Done n)) =
-    (m : Making) × Steps making_ask MakingLeads KeepsTreeLeases who before after old m (Ended n) × (work ≡ Idle home)
+    (m : Making) × Steps making_machine (occasion_of who before after) old m (Ended n) × (work ≡ Idle home)
 StepsFolding who before after (home, old) work (Ended (answer.Trouble k)) =
-    (m : Making) × Steps making_ask MakingLeads KeepsTreeLeases who before after old m (Stopped k) × (work ≡ stopped_work k home)
+    (m : Making) × Steps making_machine (occasion_of who before after) old m (Stopped k) × (work ≡ stopped_work k home)
 StepsFolding who before after (home, old) work turn = ⊥
 
 -- one step of a settling, and what it leaves in hand; at its end all its parts ran and all its calls are counted

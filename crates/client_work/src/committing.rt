@@ -63,6 +63,7 @@ fn commit_of(
 }
 
 /// Makes the call in hand of a commit where it stands, beside the cache.
+#[inline(never)]
 pub(crate) fn advance<C: Cloud>(
     alloc: Global,
     cloud: &mut C,

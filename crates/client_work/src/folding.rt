@@ -16,6 +16,7 @@ use std::alloc::Global;
 use tree_ckpt::TreeCkpt;
 
 /// Makes the call in hand of a tree checkpoint where it stands, beside any open client.
+#[inline(never)]
 pub(crate) fn fold<C: Cloud>(
     alloc: Global,
     cloud: &mut C,

@@ -16,6 +16,7 @@ use recover_run::home::Home;
 use std::alloc::Global;
 
 /// Makes the call in hand of a page checkpoint where it stands, beside any open client.
+#[inline(never)]
 pub(crate) fn page<C: Cloud>(
     alloc: Global,
     cloud: &mut C,

@@ -63,6 +63,7 @@ impl SettlingRun {
     }
 
     /// Makes the call in hand where the settling stands.
+    #[inline(never)]
     pub(crate) fn step<C: Cloud>(&mut self, alloc: Global, cloud: &mut C, who: Who) -> Turn<Answer>
         ensures sound { IsSoundPart self.old.part }
         ensures steps { StepsSettling who (C.seen cloud.old) (C.seen cloud.new)
@@ -86,6 +87,7 @@ impl SettlingRun {
 fn drop_run(_run: SettleRun) {}
 
 /// Begins a settling anew, so that the one that ended is let go.
+#[inline(never)]
 fn restart(run: &mut SettleRun, alloc: Global)
     ensures { run.new ≡ new_settling }
 {

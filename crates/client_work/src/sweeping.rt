@@ -57,6 +57,7 @@ impl SweepingRun {
     }
 
     /// Makes the call in hand where the sweep stands.
+    #[inline(never)]
     pub(crate) fn step<C: Cloud>(&mut self, alloc: Global, cloud: &mut C, who: Who) -> Turn<Answer>
         ensures { StepsSweeping who (C.seen cloud.old) (C.seen cloud.new)
             self.old (behind_sweeping self.new result) result }

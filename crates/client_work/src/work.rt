@@ -387,6 +387,7 @@ impl Work {
     }
 
     /// Has in hand what the last step of a commit, a checkpoint, a settling or a sweep leaves.
+    #[inline(never)]
     fn end_last(&mut self, turn: &Turn<Answer>)
         ensures { self.new ≡ ended_by self.old turn.now }
     {
@@ -395,6 +396,7 @@ impl Work {
     }
 
     /// Takes out what is none of these, makes its step, and puts back what that leaves.
+    #[inline(never)]
     fn step_apart<C: Cloud>(
         &mut self,
         alloc: Global,

@@ -9,7 +9,7 @@ use Rattle.cloud_trait.specs.declared.call.CallKind.{CallKind}
 use Rattle.cloud_trait.specs.declared.call.CallKind.TheVariants as kind
 use Rattle.cloud_trait.specs.Ask.{Ask, PutHeld, Take, Renew, Release}
 use Rattle.cloud_trait.specs.Claim.{Claim, extended}
-use Rattle.cloud_trait.specs.Machine.{Next, Goes, Ends, Stops, Deed, calls_of}
+use Rattle.cloud_trait.specs.Machine.{Next, Goes, Ends, Stops, Deed, calls_of, Machine, machine_by, LeadsBy}
 use Rattle.cloud_trait.specs.Views.{given_of, done_of, renewed_of}
 
 -- where a keeper stands: what it puts, under which lock, the kind of the call in hand, its lease, the end that the renewal
@@ -94,6 +94,10 @@ SameLease k a n = n.lease ≡ k.lease
 
 abbrev pub KeepsLease : Keeping → Answer → Keeping → Type 0
 KeepsLease k a n = n.lease ≡ (handed k a).lease
+
+-- a keeper, as a machine
+abbrev pub keeping_machine : Machine Keeping ℕ
+keeping_machine = machine_by keeping_ask (LeadsBy keeping_next) KeepsLease
 
 -- a keeper of the same object, lock and bytes before its first call
 abbrev pub fresh : Keeping → Keeping

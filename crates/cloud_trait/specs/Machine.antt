@@ -28,12 +28,29 @@ Took leads keeps old answer new More = leads old answer (Goes new)
 Took leads keeps old answer new (Ended a) = leads old answer (Ends new a)
 Took leads keeps old answer new (Stopped t) = (t ≢ trouble.Memory → leads old answer (Stops new t)) × (t ≡ trouble.Memory → keeps old answer new)
 
+-- a machine: what it asks for, where an answer leads it, and what it keeps at want of memory
+pub record Machine (M A : Type 0) : Type 1 where
+  pub ask : M → Ask
+  pub leads : M → Answer → Next M A → Type 0
+  pub keeps : M → Answer → M → Type 0
+
+abbrev pub machine_by : {M A : Type 0} → (M → Ask) → (M → Answer → Next M A → Type 0) → (M → Answer → M → Type 0) → Machine M A
+machine_by ask leads keeps = record { ask = ask; leads = leads; keeps = keeps }
+
+-- who makes a call, and what is seen of the cloud before and after it
+pub record Occasion : Type 0 where
+  pub who : Caller
+  pub before : Seen
+  pub after : Seen
+
+abbrev pub occasion_of : Caller → Seen → Seen → Occasion
+occasion_of who before after = record { who = who; before = before; after = after }
+
 -- the code made the call in hand, and took a step that its answer leads to
-pub record Steps {M A : Type 0} (ask : M → Ask) (leads : M → Answer → Next M A → Type 0) (keeps : M → Answer → M → Type 0)
-    (who : Caller) (before after : Seen) (old new : M) (turn : Turn A) : Type 0 where
+pub record Steps {M A : Type 0} (machine : Machine M A) (on : Occasion) (old new : M) (turn : Turn A) : Type 0 where
   pub answer : Answer
-  pub made : Makes who (ask old) answer before after
-  pub took : Took leads keeps old answer new turn
+  pub made : Makes on.who (machine.ask old) answer on.before on.after
+  pub took : Took machine.leads machine.keeps old answer new turn
 
 -- a call that was made: by whom, what it asked and answered, and what was seen of the cloud before and after it
 pub record Deed : Type 0 where

@@ -14,7 +14,7 @@ use Rattle.cloud_trait.specs.declared.answer.Answer.{Answer}
 use Rattle.cloud_trait.specs.Ask.{Ask}
 use Rattle.cloud_trait.specs.declared.turn.Turn.{Turn}
 use Rattle.cloud_trait.specs.declared.turn.Turn.TheVariants.{More, Ended, Stopped}
-use Rattle.cloud_trait.specs.Machine.{Next, Goes, Ends, Stops}
+use Rattle.cloud_trait.specs.Machine.{Next, Goes, Ends, Stops, Machine, machine_by, LeadsBy}
 use Rattle.recover_run.specs.declared.home.Home.{Home}
 use Rattle.page_cache.specs.Cache.{Cache}
 use Rattle.tree_walk.specs.Walk.{Walk, sought, new_walk, walk_ask, walk_ready, walk_next}
@@ -197,6 +197,10 @@ Keeps h n = n ≡ record h { head = n.head; attempt = n.attempt }
 -- at want of memory too
 abbrev pub KeepsHome : Run × Cache → Answer → Run × Cache → Type 0
 KeepsHome m a n = Keeps (home_of m.0) (home_of n.0)
+
+-- a commit beside its cache, as a machine
+abbrev pub run_machine : Machine (Run × Cache) CommitAnswer
+run_machine = machine_by asks (LeadsBy run_next) KeepsHome
 
 -- the code was led so, unless memory ran out
 abbrev pub Led : Next (Run × Cache) CommitAnswer → Run × Cache → Turn CommitAnswer → Type 0

@@ -8,11 +8,11 @@ use Rattle.cloud_trait.specs.declared.turn.Turn.{Turn}
 use Rattle.cloud_trait.specs.declared.turn.Turn.TheVariants.{Stopped}
 use Rattle.cloud_trait.specs.Caller.{Caller}
 use Rattle.cloud_trait.specs.Calm.{AreCalm}
-use Rattle.cloud_trait.specs.Machine.{Steps, LeadsBy, Deed, calls_of}
+use Rattle.cloud_trait.specs.Machine.{Steps, Deed, calls_of, occasion_of}
 use Rattle.cloud_trait.specs.Seen.{Seen}
 use Rattle.ckpt_parts.specs.Leasing.{outstanding}
 use Rattle.orphan_sweep.specs.declared.swept.Swept.{Swept}
-use Rattle.orphan_sweep.specs.Sweeping.{Sweeping, sweep_ask, sweep_next, KeepsLease}
+use Rattle.orphan_sweep.specs.Sweeping.{Sweeping, sweep_ask, sweep_machine}
 use Rattle.orphan_sweep.specs.Leases.{Went, Stands, Names, AreReturned, AreFew}
 use Rattle.orphan_sweep.specs.Causes.{IsShown, Tells}
 use Rattle.orphan_sweep.specs.Demands.{Owes}
@@ -43,6 +43,6 @@ pub record Means (d : Deed) (h : List Deed) (old new : Sweeping) (turn : Turn Sw
 -- The code made the call in hand and took the step that its answer leads to. Where the answer is want of memory, it stops for it. Whichever calls the
 -- sweep came by, the answer came to this behind them.
 pub record Stepped (who : Caller) (before after : Seen) (old new : Sweeping) (turn : Turn Swept) : Type 0 where
-  pub did : Steps sweep_ask (LeadsBy sweep_next) KeepsLease who before after old new turn
+  pub did : Steps sweep_machine (occasion_of who before after) old new turn
   pub memory : did.answer ≡ call.Memory → turn ≡ Stopped trouble.Memory
   pub means : (h : List Deed) → Went h old → Means (deed_of who old did.answer before after) h old new turn

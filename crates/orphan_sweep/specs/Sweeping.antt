@@ -12,7 +12,7 @@ use Rattle.cloud_trait.specs.declared.answer.Answer.TheVariants.{Failed}
 use Rattle.cloud_trait.specs.declared.turn.Turn.{Turn}
 use Rattle.cloud_trait.specs.Ask.{Ask, GetHeld, ListHeld, RemoveHeld, Take, Release}
 use Rattle.cloud_trait.specs.Claim.{Claim}
-use Rattle.cloud_trait.specs.Machine.{Next, Goes, Ends, Stops, Took}
+use Rattle.cloud_trait.specs.Machine.{Next, Goes, Ends, Stops, Took, Machine, machine_by, LeadsBy}
 use Rattle.cloud_trait.specs.Views.{given_of, got_of, listed_of, done_of}
 use Rattle.orphan_sweep.specs.declared.paths.Paths.{Paths}
 use Rattle.orphan_sweep.specs.declared.spot.Spot.{Spot}
@@ -198,3 +198,7 @@ TurnsBy leads old new turn = Took (λ from _ next. leads from next) SameLease ol
 -- and so does the call with its step, but for a lease that the call gives back
 abbrev pub KeepsLease : Sweeping → Answer → Sweeping → Type 0
 KeepsLease s a n = n.held ≡ (handed s).held
+
+-- a sweep, as a machine
+abbrev pub sweep_machine : Machine Sweeping Swept
+sweep_machine = machine_by sweep_ask (LeadsBy sweep_next) KeepsLease

@@ -5,6 +5,7 @@ use Rattle.db_base.specs.declared.trouble.Trouble.{Trouble}
 use Rattle.cloud_trait.specs.declared.answer.Answer.{Answer}
 use Rattle.cloud_trait.specs.Ask.{Get}
 use Rattle.cloud_trait.specs.Caller.{Caller}
+use Rattle.cloud_trait.specs.Machine.{Occasion}
 use Rattle.cloud_trait.specs.Seen.{Seen}
 use Rattle.cloud_trait.specs.Views.{got_of}
 use Rattle.cloud_trait.specs.Weather.{Makes}
@@ -17,7 +18,7 @@ pub record Gets (who : Caller) (name : ObjName) (before after : Seen) (got : Res
   pub is : got ≡ got_of answer
 
 -- one get, whose answer is accepted
-pub record Fetched (who : Caller) (name : ObjName) (as_leaf : Bool) (before after : Seen) (old new : Cache) (result : Result ℕ Trouble) : Type 0 where
+pub record Fetched (name : ObjName) (as_leaf : Bool) (on : Occasion) (old new : Cache) (result : Result ℕ Trouble) : Type 0 where
   pub answer : Answer
-  pub made : Makes who (Get name) answer before after
+  pub made : Makes on.who (Get name) answer on.before on.after
   pub did : Did (accepts_got old name as_leaf (got_of answer)) old new result

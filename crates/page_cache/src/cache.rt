@@ -2,6 +2,7 @@ ghost use Rattle.std.specs.Prelude.{◌≡◌, ◌↔◌, [], length, IfOk, IfEr
 ghost use Rattle.page_cache.specs.Cache.{IsCache, empty_cache, kept_at, served_at, placed, served, dropped, Did, accepts, accepts_none, accepts_no_leaf, accepts_leaf, accepts_read, accepts_version};
 ghost use Rattle.page_cache.specs.Held.{leaf_at, inner_at, root_at};
 ghost use Rattle.page_cache.specs.Spelled.{IsSpelled, version_read};
+ghost use Rattle.cloud_trait.specs.Machine.{occasion_of};
 ghost use Rattle.page_cache.specs.Fetched.{Fetched, Gets};
 
 use crate::objects::Objects;
@@ -287,6 +288,7 @@ impl PageCache {
     }
 
     /// Forgets all bytes and versions. Takes no memory.
+    #[inline(never)]
     pub fn clear(&mut self)
         ensures { self.new ≡ empty_cache }
     {
@@ -302,7 +304,7 @@ impl PageCache {
         name: ObjName,
         leaf: bool,
     ) -> Result<u64, Trouble>
-        ensures { Fetched who name leaf (C.seen cloud.old) (C.seen cloud.new) self.old self.new result }
+        ensures { Fetched name leaf (occasion_of who (C.seen cloud.old) (C.seen cloud.new)) self.old self.new result }
     {
         match got_of(cloud, who, &name) {
             Ok(got) => self.take(&name, got, leaf),

@@ -27,7 +27,7 @@ use Rattle.cloud_trait.specs.declared.turn.CkptAnswer.{CkptAnswer}
 use Rattle.cloud_trait.specs.declared.turn.Turn.{Turn}
 use Rattle.cloud_trait.specs.Ask.{Ask, GetHeld, PutHeld, Receive, Delete, Take, Release}
 use Rattle.cloud_trait.specs.Claim.{Claim}
-use Rattle.cloud_trait.specs.Machine.{Next, Goes, Ends, Stops, Took}
+use Rattle.cloud_trait.specs.Machine.{Next, Goes, Ends, Stops, Took, Machine, machine_by}
 use Rattle.cloud_trait.specs.Views.{given_of, got_of, received_of, done_of}
 use Rattle.ckpt_parts.specs.declared.intake.Intake.{Intake}
 use Rattle.ckpt_parts.specs.declared.leases.Leases.{Leases}
@@ -371,3 +371,7 @@ TurnsBy leads old new turn = Took (λ from _ next. leads from next) SameLeases o
 -- and so does the call with its step, but for a lease that the call gives back
 abbrev pub KeepsLeases : Paging → Answer → Paging → Type 0
 KeepsLeases p a n = n.held ≡ (handed p).held
+
+-- a page checkpoint, as a machine
+abbrev pub paging_machine : Machine Paging CkptAnswer
+paging_machine = machine_by paging_ask PagingLeads KeepsLeases

@@ -5,7 +5,7 @@ use Rattle.page_cache.specs.Cache.{Cache}
 use Rattle.tree_walk.specs.Walk.{ServesOn}
 use Rattle.tree_walk.specs.Walk.{Spot}
 use Rattle.tree_walk.proofs.Meaning.{walked_led}
-use Rattle.range_scan.specs.Scan.{Scan, scan_asks, scan_object_at, scan_next, KeepsServed}
+use Rattle.range_scan.specs.Scan.{Scan, scan_object_at, scan_machine}
 use Rattle.range_scan.specs.Causes.{deed_of}
 use Rattle.range_scan.specs.Meaning.{IsWalked, deeds_of}
 use Rattle.range_scan.specs.Stepped.{Stepped}
@@ -15,7 +15,7 @@ use Rattle.range_scan.proofs.Meaning.{next_means, scanned_led}
 use Rattle.range_scan.proofs.Walked.{scanned_walked}
 use Rattle.range_scan.proofs.Within.{scanned_within}
 
-pub next_stepped : (who : Caller) (before after : Seen) (m n : Scan × Cache) (turn : Turn ℕ) → Steps scan_asks (LeadsBy scan_next) KeepsServed who before after m n turn → ServesOn m.1 n.1
+pub next_stepped : (who : Caller) (before after : Seen) (m n : Scan × Cache) (turn : Turn ℕ) → Steps scan_machine (occasion_of who before after) m n turn → ServesOn m.1 n.1
     → Stepped who before after m n turn
 next_stepped who before after m n turn steps on = record {
   answer = steps.answer;

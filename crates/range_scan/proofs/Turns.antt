@@ -4,9 +4,9 @@ use Rattle.std.specs.Prelude.{is_some}
 use Rattle.range_scan.proofs.Words.{Get, Caller, Ends, Goes, LeadsBy, Next, Steps, Stops, Took, Seen, Makes, Answer, Turn, Ended, More, Stopped, Trouble}
 use Rattle.page_cache.specs.Cache.{Cache}
 use Rattle.tree_walk.specs.Moves.{Moves}
-use Rattle.tree_walk.specs.Walk.{Spot, Walk, asks, walk_next, ServesOn}
+use Rattle.tree_walk.specs.Walk.{Spot, Walk, walk_next, ServesOn, walk_machine}
 use Rattle.tree_walk.specs.Walk.{KeepsServed as KeepsWalked}
-use Rattle.range_scan.specs.Scan.{Scan, scan_asks, scan_object_at, scan_beside, walked_on, walked_by, next_at, scan_next, KeepsServed}
+use Rattle.range_scan.specs.Scan.{Scan, scan_object_at, scan_beside, walked_on, walked_by, next_at, scan_next, KeepsServed, scan_machine}
 
 -- what was done beside the cache
 beside_moves : (n : Next Scan ℕ) (c : Cache) (new : Scan) (turn : Turn ℕ) → Moves n new turn → Moves (scan_beside (n, c)) (new, c) turn
@@ -55,8 +55,8 @@ none_of (Some spot) e = absurd (cc (e))
 
 -- a step of the walk is one of the scan
 pub walk_steps : (who : Caller) (before after : Seen) (s : Scan) (c : Cache) (w : Walk) (d : Cache) (turn result : Turn ℕ) (new : Scan) → s.spot ≡ None
-    → Steps asks (LeadsBy walk_next) KeepsWalked who before after (s.walk, c) (w, d) turn → ServesOn c d
-    → Moves (walked_on (record s { walk = w }) d turn) new result → Steps scan_asks (LeadsBy scan_next) KeepsServed who before after (s, c) (new, d) result
+    → Steps walk_machine (occasion_of who before after) (s.walk, c) (w, d) turn → ServesOn c d
+    → Moves (walked_on (record s { walk = w }) d turn) new result → Steps scan_machine (occasion_of who before after) (s, c) (new, d) result
 walk_steps who before after s c w d turn result new e h on moved =
     let P : Option Spot → Type 0 = λ o. Moves (next_at o (s, c) h.answer) (new, d) result in
     let Q : Option Spot → Type 0 = λ o. Makes who (Get (scan_object_at s o)) h.answer before after in

@@ -1,7 +1,7 @@
 -- The words of the lemmas on a scan.
 pub use Rattle.cloud_trait.specs.Ask.{Get}
 pub use Rattle.cloud_trait.specs.Caller.{Caller}
-pub use Rattle.cloud_trait.specs.Machine.{Ends, Goes, LeadsBy, Next, Steps, Stops, Took}
+pub use Rattle.cloud_trait.specs.Machine.{Ends, Goes, LeadsBy, Next, Steps, Stops, Took, occasion_of}
 pub use Rattle.cloud_trait.specs.Seen.{Seen}
 pub use Rattle.cloud_trait.specs.Weather.{Makes}
 pub use Rattle.cloud_trait.specs.declared.answer.Answer.{Answer}

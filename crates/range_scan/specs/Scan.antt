@@ -11,7 +11,7 @@ use Rattle.cloud_trait.specs.declared.answer.Answer.{Answer}
 use Rattle.cloud_trait.specs.declared.turn.Turn.{Turn}
 use Rattle.cloud_trait.specs.declared.turn.Turn.TheVariants.{More, Ended, Stopped}
 use Rattle.cloud_trait.specs.Ask.{Ask, Get}
-use Rattle.cloud_trait.specs.Machine.{Next, Goes, Ends, Stops}
+use Rattle.cloud_trait.specs.Machine.{Next, Goes, Ends, Stops, Machine, machine_by, LeadsBy}
 use Rattle.cloud_trait.specs.Views.{got_of}
 use Rattle.page_cache.specs.Cache.{Cache, accepts}
 use Rattle.page_cache.specs.Held.{leaf_at}
@@ -151,3 +151,7 @@ scan_next m a = next_at m.0.spot m a
 -- want of memory keeps the versions that were served; a scan has no lease to keep
 abbrev pub KeepsServed : Scan × Cache → Answer → Scan × Cache → Type 0
 KeepsServed m a n = ServesOn m.1 n.1
+
+-- a scan beside its cache, as a machine
+abbrev pub scan_machine : Machine (Scan × Cache) ℕ
+scan_machine = machine_by scan_asks (LeadsBy scan_next) KeepsServed

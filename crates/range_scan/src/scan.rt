@@ -3,7 +3,7 @@ ghost use Rattle.page_cache.specs.Held.{leaf_at};
 ghost use Rattle.std.specs.Option.{option_copied, option_map};
 ghost use Rattle.byte_format.specs.Order.{below_bound};
 ghost use Rattle.cloud_trait.specs.Call.{ask_of};
-ghost use Rattle.cloud_trait.specs.Machine.{LeadsBy, Steps};
+ghost use Rattle.cloud_trait.specs.Machine.{Steps, occasion_of};
 ghost use Rattle.tree_walk.specs.Moves.{Moves, MovesBeside};
 ghost use Rattle.tree_walk.specs.Walk.{Spot as Place, ServesOn};
 
@@ -63,7 +63,7 @@ impl Model for RangeScan {
 }
 
 impl RangeScan {
-    ghost use Rattle.range_scan.specs.Scan.{new_scan, scan_object, scan_ask, scan_asks, right_in, scan_came_to, leaf_ended, goes_on, moved_on, first_read, walked_on, right_read_in, right_read, right_got, scan_ready, scan_next, KeepsServed};
+    ghost use Rattle.range_scan.specs.Scan.{new_scan, scan_object, scan_ask, right_in, scan_came_to, leaf_ended, goes_on, moved_on, first_read, walked_on, right_read_in, right_read, right_got, scan_ready, scan_machine};
     ghost use Rattle.range_scan.specs.End.{calls_left, GoesFurther};
     ghost use Rattle.range_scan.specs.Pairs.{AreItemsIn};
     ghost use Rattle.range_scan.specs.Stepped.{Stepped};
@@ -257,7 +257,7 @@ impl RangeScan {
         cache: &mut PageCache,
     ) -> Turn<PageId>
         requires { is_some self.old.spot ≡ true }
-        ensures steps { Steps scan_asks (LeadsBy scan_next) KeepsServed who (C.seen cloud.old) (C.seen cloud.new) (self.old, cache.old) (self.new, cache.new) result }
+        ensures steps { Steps scan_machine (occasion_of who (C.seen cloud.old) (C.seen cloud.new)) (self.old, cache.old) (self.new, cache.new) result }
         ensures served { ServesOn cache.old cache.new }
         ensures less { result ≡ Turn.More → calls_left self.new < calls_left self.old }
         ensures further { GoesFurther self.old self.new result }
@@ -277,7 +277,7 @@ impl RangeScan {
         cache: &mut PageCache,
     ) -> Turn<PageId>
         requires { is_some self.old.spot ≡ false }
-        ensures steps { Steps scan_asks (LeadsBy scan_next) KeepsServed who (C.seen cloud.old) (C.seen cloud.new) (self.old, cache.old) (self.new, cache.new) result }
+        ensures steps { Steps scan_machine (occasion_of who (C.seen cloud.old) (C.seen cloud.new)) (self.old, cache.old) (self.new, cache.new) result }
         ensures served { ServesOn cache.old cache.new }
         ensures less { result ≡ Turn.More → calls_left self.new < calls_left self.old }
         ensures further { GoesFurther self.old self.new result }

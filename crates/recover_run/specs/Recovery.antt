@@ -23,7 +23,7 @@ use Rattle.cloud_trait.specs.declared.message.Message.{Message}
 use Rattle.cloud_trait.specs.declared.turn.Turn.{Turn}
 use Rattle.cloud_trait.specs.Ask.{Ask, GetHeld, PutHeld, Send, Receive, Delete, Take, Release}
 use Rattle.cloud_trait.specs.Claim.{Claim}
-use Rattle.cloud_trait.specs.Machine.{Next, Goes, Ends, Stops, Took}
+use Rattle.cloud_trait.specs.Machine.{Next, Goes, Ends, Stops, Took, Machine, machine_by, LeadsBy}
 use Rattle.cloud_trait.specs.Views.{given_of, got_of, sent_of, received_of, done_of}
 use Rattle.recover_run.specs.declared.wanted.Wanted.{Wanted}
 use Rattle.recover_run.specs.declared.home.Home.{Home}
@@ -327,6 +327,10 @@ TurnsBy leads old new turn = Took (λ from _ next. leads from next) SameLeases o
 -- and so does the call with its step, but where the call gives one back
 abbrev pub KeepsLeases : Recovery → Answer → Recovery → Type 0
 KeepsLeases r a n = (n.lease ≡ (handed_over r).lease) × (n.former ≡ (handed_over r).former)
+
+-- a recovery, as a machine
+abbrev pub recovery_machine : Machine Recovery RecoverAnswer
+recovery_machine = machine_by recovery_ask (LeadsBy recovery_next) KeepsLeases
 
 -- what a session has in hand after an opening
 abbrev pub home_with : Recovery → Option Claim → Option Home

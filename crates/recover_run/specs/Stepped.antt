@@ -8,7 +8,7 @@ use Rattle.cloud_trait.specs.declared.turn.Turn.{Turn}
 use Rattle.cloud_trait.specs.declared.turn.Turn.TheVariants.{Stopped}
 use Rattle.cloud_trait.specs.Caller.{Caller}
 use Rattle.cloud_trait.specs.Claim.{Claim}
-use Rattle.cloud_trait.specs.Machine.{LeadsBy, Steps, Deed, calls_of}
+use Rattle.cloud_trait.specs.Machine.{Steps, Deed, calls_of, occasion_of}
 use Rattle.cloud_trait.specs.Seen.{Seen}
 use Rattle.cloud_trait.specs.State.{CloudState}
 use Rattle.cloud_trait.specs.Calm.{AreCalm, AreAlone}
@@ -19,7 +19,7 @@ use Rattle.recover_run.specs.Causes.{Shows, Tells, Keeps, AnswersKept, IsAbsent}
 use Rattle.recover_run.specs.Emptying.{IsBeginning, HadMemory, LeavesNone, deed_of}
 use Rattle.recover_run.specs.Meaning.{MeansTurn, HandsNone}
 use Rattle.recover_run.specs.Missing.{NoneMissing, WaitsForNone}
-use Rattle.recover_run.specs.Recovery.{Recovery, recovery_ask, recovery_next, KeepsLeases}
+use Rattle.recover_run.specs.Recovery.{Recovery, recovery_ask, recovery_machine}
 use Rattle.recover_run.specs.Leases.{Went, AreReturned}
 use Rattle.recover_run.specs.Calm.{StopsWell}
 
@@ -58,7 +58,7 @@ pub record Means (course : Course) (d : Deed) (old new : Recovery) (turn : Turn 
 -- The code made the call in hand and took the step that its answer leads to. Where the answer is want of memory, it stops for it. Whichever calls
 -- the recovery came by, the answer came to this behind them.
 pub record Stepped (who : Caller) (before after : Seen) (old new : Recovery) (turn : Turn RecoverAnswer) : Type 0 where
-  pub did : Steps recovery_ask (LeadsBy recovery_next) KeepsLeases who before after old new turn
+  pub did : Steps recovery_machine (occasion_of who before after) old new turn
   pub memory : did.answer ≡ call.Memory → turn ≡ Stopped trouble.Memory
   pub means : (client : ℕ) (aim : Aim) (former : Option Claim) (h : List Deed) → Went client aim former h old
       → Means (course_of client aim former h) (deed_of who old did.answer before after) old new turn

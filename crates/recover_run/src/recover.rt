@@ -323,6 +323,7 @@ impl RecoverRun {
         }
     }
 
+    #[inline(never)]
     fn got_bytes(&mut self, alloc: Global, bytes: &[u8]) -> Turn<RecoverAnswer>
         ensures { TurnsBy (λ r n. bytes_read r bytes.now (head_of bytes.now) ≡ n) self.old self.new result }
     {
@@ -376,6 +377,7 @@ impl RecoverRun {
 
     // ---- the records of an open head
 
+    #[inline(never)]
     fn received(
         &mut self,
         alloc: Global,
@@ -480,6 +482,7 @@ impl RecoverRun {
         }
     }
 
+    #[inline(never)]
     fn sent(&mut self, alloc: Global, sent: Result<MsgId, Trouble>) -> Turn<RecoverAnswer>
         requires { self.old.stage ≡ Stage.Sending }
         ensures { TurnsBy (λ r n. sent_by r sent ≡ n) self.old self.new result }
@@ -509,6 +512,7 @@ impl RecoverRun {
 
     // ---- behind the put
 
+    #[inline(never)]
     fn put(&mut self, alloc: Global, done: Result<(), Trouble>) -> Turn<RecoverAnswer>
         requires { HasSpelling self.old.head }
         ensures { TurnsBy (λ r n. put_by r done ≡ n) self.old self.new result }
@@ -561,6 +565,7 @@ impl RecoverRun {
         self.clear_next()
     }
 
+    #[inline(never)]
     fn swept(
         &mut self,
         alloc: Global,

@@ -9,7 +9,7 @@ use Rattle.cloud_trait.specs.declared.turn.Turn.{Turn}
 use Rattle.cloud_trait.specs.declared.turn.Turn.TheVariants.{More, Ended, Stopped}
 use Rattle.cloud_trait.specs.Caller.{Caller}
 use Rattle.cloud_trait.specs.Seen.{Seen}
-use Rattle.cloud_trait.specs.Machine.{Next, Goes, Ends, Stops, Deed, Came, IsMade, Steps}
+use Rattle.cloud_trait.specs.Machine.{Next, Goes, Ends, Stops, Deed, Came, IsMade, Steps, occasion_of}
 use Rattle.db_base.specs.Ids.{IsClient, IsTree}
 use Rattle.recover_run.specs.Ids.{has_id, new_ids}
 use Rattle.recover_run.specs.Recovery.{Recovery}
@@ -18,7 +18,7 @@ use Rattle.settle_run.specs.declared.part.Part.{Part}
 use Rattle.settle_run.specs.declared.part.Part.TheVariants.{Client, Tree, Page}
 use Rattle.settle_run.specs.declared.settled.Settled.{Settled}
 use Rattle.settle_run.specs.Parts.{part_ask, part_again, part_received, PartLeads, PartWent}
-use Rattle.settle_run.specs.Settling.{Settling, new_settling, settle_ask, SettleLeads, KeepsSettling, passed, is_visited}
+use Rattle.settle_run.specs.Settling.{Settling, new_settling, settle_ask, SettleLeads, passed, is_visited, settling_machine}
 use Rattle.settle_run.specs.Leases.{AreReturned}
 use Rattle.settle_run.specs.Stepped.{part_deed, PartStepped}
 use Rattle.tree_ckpt.specs.Making.{Making}
@@ -190,7 +190,7 @@ Follows s next (Stopped t) = t ≢ trouble.Memory → MustStop s next t
 -- Whichever calls it came by, its end tells what they were with this one (`means`), and before an end each lease that they took was given back by a
 -- call (`returned`).
 pub record Stepped (who : Caller) (before after : Seen) (old new : Settling) (turn : Turn Settled) : Type 0 where
-  pub did : Steps settle_ask SettleLeads KeepsSettling who before after old new turn
+  pub did : Steps settling_machine (occasion_of who before after) old new turn
   pub part : Part
   pub part_turn : Turn ℕ
   pub stepped : PartStepped (part_deed who old.part did.answer before after) old.part part part_turn

@@ -6,7 +6,7 @@ use Rattle.cloud_trait.specs.declared.turn.CkptAnswer.{CkptAnswer}
 use Rattle.cloud_trait.specs.declared.turn.Turn.{Turn}
 use Rattle.cloud_trait.specs.declared.turn.Turn.TheVariants.{More, Ended, Stopped}
 use Rattle.cloud_trait.specs.Ask.{Ask}
-use Rattle.cloud_trait.specs.Machine.{Next, Goes, Ends, Stops, LeadsBy, Deed, Came}
+use Rattle.cloud_trait.specs.Machine.{Next, Goes, Ends, Stops, LeadsBy, Deed, Came, Machine, machine_by}
 use Rattle.recover_run.specs.declared.stage.Aim.TheVariants as aim
 use Rattle.recover_run.specs.declared.stage.RecoverAnswer.{RecoverAnswer}
 use Rattle.recover_run.specs.Recovery.{Recovery, new_recovery, recovery_ask, recovery_next, KeepsLeases as KeepsRecovery, IsSound}
@@ -100,6 +100,10 @@ KeepsPart (Client client m) a (Client other n) = (other ≡ client) × KeepsReco
 KeepsPart (Tree tree m) a (Tree other n) = (other ≡ tree) × KeepsMaking m a n
 KeepsPart (Page tree page m) a (Page other right n) = (other ≡ tree) × (right ≡ page) × KeepsPaging m a n
 KeepsPart old a new = ⊥
+
+-- a part, as a machine
+abbrev pub part_machine : Machine Part ℕ
+part_machine = machine_by part_ask PartLeads KeepsPart
 
 -- the part came here from its own first call on by these calls, the newest first
 abbrev pub PartWent : List Deed → Part → Type 0

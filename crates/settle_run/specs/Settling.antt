@@ -9,7 +9,7 @@ use Rattle.cloud_trait.specs.declared.answer.Answer.TheVariants.{Failed}
 use Rattle.cloud_trait.specs.declared.turn.Turn.{Turn}
 use Rattle.cloud_trait.specs.declared.turn.Turn.TheVariants.{More, Ended, Stopped}
 use Rattle.cloud_trait.specs.Ask.{Ask}
-use Rattle.cloud_trait.specs.Machine.{Next, Goes, Ends, Stops, Took}
+use Rattle.cloud_trait.specs.Machine.{Next, Goes, Ends, Stops, Took, Machine, machine_by}
 use Rattle.recover_run.specs.Ids.{new_ids}
 use Rattle.settle_run.specs.declared.part.Part.{Part}
 use Rattle.settle_run.specs.declared.part.Part.TheVariants.{Client, Tree, Page}
@@ -117,3 +117,7 @@ TurnsBy leads old new turn = Took (λ from _ next. leads from next) SamePart old
 -- at want of memory the part at work stands as a step of its own leaves it, with its leases
 abbrev pub KeepsSettling : Settling → Answer → Settling → Type 0
 KeepsSettling s a n = (turn : Turn ℕ) × Took PartLeads KeepsPart s.part a n.part turn
+
+-- a settling, as a machine
+abbrev pub settling_machine : Machine Settling Settled
+settling_machine = machine_by settle_ask SettleLeads KeepsSettling

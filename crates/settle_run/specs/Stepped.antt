@@ -4,7 +4,7 @@ use Rattle.cloud_trait.specs.declared.answer.Answer.{Answer}
 use Rattle.cloud_trait.specs.declared.turn.CkptAnswer.{CkptAnswer}
 use Rattle.cloud_trait.specs.declared.turn.Turn.{Turn}
 use Rattle.cloud_trait.specs.Caller.{Caller}
-use Rattle.cloud_trait.specs.Machine.{Deed, Steps}
+use Rattle.cloud_trait.specs.Machine.{Deed, Steps, occasion_of}
 use Rattle.cloud_trait.specs.Seen.{Seen}
 use Rattle.recover_run.specs.declared.stage.RecoverAnswer.{RecoverAnswer}
 use Rattle.recover_run.specs.Stepped.{Stepped as RecoveryStepped}
@@ -12,7 +12,7 @@ use Rattle.page_ckpt.specs.Stepped.{Stepped as PagingStepped}
 use Rattle.tree_ckpt.specs.Stepped.{Stepped as MakingStepped}
 use Rattle.settle_run.specs.declared.part.Part.{Part}
 use Rattle.settle_run.specs.declared.part.Part.TheVariants.{Client, Tree, Page}
-use Rattle.settle_run.specs.Parts.{recovered_turn, left_turn, part_ask, PartLeads, KeepsPart}
+use Rattle.settle_run.specs.Parts.{recovered_turn, left_turn, part_ask, part_machine}
 
 -- the call in hand of a part
 abbrev pub part_deed : Caller → Part → Answer → Seen → Seen → Deed
@@ -31,5 +31,5 @@ PartStepped call old new left = ⊥
 
 -- the code made the call in hand of the part and took a step of it, and the same step of its machine
 pub record PartSteps (who : Caller) (before after : Seen) (old new : Part) (turn : Turn ℕ) : Type 0 where
-  pub did : Steps part_ask PartLeads KeepsPart who before after old new turn
+  pub did : Steps part_machine (occasion_of who before after) old new turn
   pub stepped : PartStepped (part_deed who old did.answer before after) old new turn

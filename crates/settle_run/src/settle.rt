@@ -191,6 +191,7 @@ impl SettleRun {
     }
 
     /// A failed deletion of a checkpoint stops the settling.
+    #[inline(never)]
     fn end(&mut self, alloc: Global, left: u64) -> Turn<Settled>
         ensures { TurnsBy (λ s n. ended_by s left ≡ n) self.old self.new result }
     {

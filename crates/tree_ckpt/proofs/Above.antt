@@ -13,7 +13,7 @@ use Rattle.tree_phases.specs.Kept.{links_at}
 use Rattle.tree_phases.specs.Placing.{landed_root}
 use Rattle.tree_phases.specs.Read.{tree_held}
 use Rattle.tree_ckpt.specs.Causes.{Calls, WasGot}
-use Rattle.tree_ckpt.specs.Working.{IsAmong, PutsPieces, Outcome, Planned, Spared, Passed, Visit, AreVisits, IsLeft, placing_of, root_behind, links_from, links_behind, Climb, AreClimbs, root_above, links_above, IsFollowed, IsPieceOf, IsLeafPiece, IsNodePiece, Worked, last_root, last_links, looks_of, IsUnder, IsInRange, IsOfRoot, IsNamed, HasClimbed, HasRisen, HoldsLow, HoldsLeaf, HasLevel, IsNamedAbove, IsNewNamed, leaf_place, node_place, link_to, visits_over}
+use Rattle.tree_ckpt.specs.Working.{IsAmong, PutsPieces, form_of, Outcome, Planned, Spared, Passed, Visit, AreVisits, IsLeft, placing_of, root_behind, links_from, links_behind, Climb, AreClimbs, root_above, links_above, IsFollowed, IsPieceOf, IsLeafPiece, IsNodePiece, Worked, last_root, last_links, looks_of, IsUnder, IsInRange, IsOfRoot, IsNamed, HasClimbed, HasRisen, HoldsLow, HoldsLeaf, HasLevel, IsNamedAbove, IsNewNamed, leaf_place, node_place, link_to, visits_over}
 use Rattle.tree_ckpt.proofs.Words.{Taken, Claim, NewEntry, Placing, Link}
 use Rattle.tree_ckpt.proofs.Entries.{among_front, among_back}
 use Rattle.tree_ckpt.proofs.Inside.{node_piece_holds, leaf_piece_holds}
@@ -83,7 +83,7 @@ new_pages level l page first (p ∷ q ∷ ps) h = let under : l.page < first + l
 
 -- so they are below the next number of the tree object that stands behind the reservation
 put_page : {A X : Type 0} (key : A → List ℕ) (bytes : Part A X → List ℕ) (root : Option (List ℕ)) (page : ℕ) (whole : Part A X) (placing : Placing) (entries : List NewEntry)
-    (level : ℕ) (l : Link) → PutsPieces key bytes (tree_held root) page whole placing entries → IsAmong l (links_at level entries) → l.page < (tree_held (landed_root placing root)).next
+    (level : ℕ) (l : Link) → PutsPieces (form_of key bytes) (tree_held root) page whole placing entries → IsAmong l (links_at level entries) → l.page < (tree_held (landed_root placing root)).next
 put_page key bytes root page whole placing entries level l put h =
     let new = new_pages level l page put.first put.pieces (subst (λ (es : List NewEntry). IsAmong l (links_at level es)) put.entries h) in
     let behind = held_after root put.first (length put.pieces - 1) placing.reserved put.numbers in

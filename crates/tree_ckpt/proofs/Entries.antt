@@ -14,7 +14,7 @@ use Rattle.split_plan.specs.Part.{NodePart, entry_key, part_of_node}
 use Rattle.split_plan.specs.Plan.{put_of, on_pages, node_bytes}
 use Rattle.tree_phases.specs.Nodes.{goes_to, with_links}
 use Rattle.tree_phases.specs.Root.{is_named, with_named}
-use Rattle.tree_ckpt.specs.Working.{IsAmong, PutsEntry, PutsPieces, PutsRoot, HasRisen, IsNamed, IsInRange, IsOfRoot, linked_node, raised_root}
+use Rattle.tree_ckpt.specs.Working.{IsAmong, PutsEntry, PutsPieces, form_of, PutsRoot, HasRisen, IsNamed, IsInRange, IsOfRoot, linked_node, raised_root}
 use Rattle.tree_ckpt.proofs.Words.{PagePut, NewEntry, Placing, Link, RootPlan}
 
 -- ---- lists
@@ -324,7 +324,7 @@ goes n l k =
     ∙ (ap (λ (b : Bool). not b && below_bound l.low n.high) k.from ∙ k.to)))
 
 pub node_names : (root : Tree) (page : ℕ) (n : Inner) (ls : List Link) (placing : Placing) (entries : List NewEntry) (l : Link)
-    → PutsPieces entry_key node_bytes root page (part_of_node (linked_node n ls)) placing entries → IsInRange n l → IsAmong l ls
+    → PutsPieces (form_of entry_key node_bytes) root page (part_of_node (linked_node n ls)) placing entries → IsInRange n l → IsAmong l ls
     → IsNamed (λ (e : Entry). PutsEntry n.level e placing.puts) n.entries ls l
 node_names root page n ls placing entries l put k h = on (links_named n l ls n.entries (goes n l k) h) where
   on : Named (with_links n ls n.entries) n.entries ls l → IsNamed (λ (e : Entry). PutsEntry n.level e placing.puts) n.entries ls l

@@ -27,7 +27,7 @@ use Rattle.split_plan.proofs.Counting.{can-cuts, cuts-and-last}
 use Rattle.tree_phases.specs.Kept.{links_at}
 use Rattle.tree_phases.specs.Nodes.{goes_to, with_links}
 use Rattle.node_codec.specs.Tree.{Tree}
-use Rattle.tree_ckpt.specs.Working.{IsAmong, PutsPieces, PutsLeaf, HoldsLeaf, linked_node, HoldsLow}
+use Rattle.tree_ckpt.specs.Working.{IsAmong, PutsPieces, form_of, PutsLeaf, HoldsLeaf, linked_node, HoldsLow}
 use Rattle.tree_ckpt.proofs.Fences.{seen_read, then_read, whole_read}
 use Rattle.tree_ckpt.proofs.Fits.{ReadsFit, maybe_fits, only_where_fits, text_fits, ruled_fits, then_fits, seen_fits, list_of_fits}
 use Rattle.tree_ckpt.proofs.Entries.{among_front, among_back, entry_at, with_from}
@@ -141,7 +141,7 @@ low_of level l (e ∷ es) (inl same) = (e, inl refl, ap (λ (m : Link). m.low) (
 low_of level l (e ∷ es) (inr h) = let rest = low_of level l es h in (rest.0, inr rest.1, rest.2)
 
 pub node_piece_holds : (root : Tree) (page : ℕ) (bytes : List ℕ) (n : Inner) (ls : List Link) (placing : Placing) (entries : List NewEntry) (level : ℕ) (l : Link)
-    → inner_of bytes ≡ Some n → PutsPieces entry_key node_bytes root page (part_of_node (linked_node n ls)) placing entries → IsAmong l (links_at level entries) → HoldsLow n l.low
+    → inner_of bytes ≡ Some n → PutsPieces (form_of entry_key node_bytes) root page (part_of_node (linked_node n ls)) placing entries → IsAmong l (links_at level entries) → HoldsLow n l.low
 node_piece_holds root page bytes n ls placing entries level l spelt put h =
     let e = low_of level l entries h in
     let x = new_low entry_key put.first (part_of_node (linked_node n ls)) page e.0 put.pieces put.cut (subst (λ (es : List NewEntry). IsAmong e.0 es) put.entries e.1) in

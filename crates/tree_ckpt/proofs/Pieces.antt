@@ -23,7 +23,7 @@ use Rattle.tree_phases.specs.Nodes as nodes
 use Rattle.tree_phases.specs.Folding.{no_placing}
 use Rattle.tree_phases.specs.Rising.{plan_of}
 use Rattle.tree_phases.specs.Root.{raised_root as planned_root, risen_by, lowered, cut_at, cut_behind, cut_by as cut_by_count, root_cut, root_plan, uncut}
-use Rattle.tree_ckpt.specs.Working.{Reserves, PutsPieces, PutsLeaf, PutsNode, linked_node, raised_root, PutsWhole, PutsBelow, PutsRoot}
+use Rattle.tree_ckpt.specs.Working.{Reserves, PutsPieces, form_of, PutsLeaf, PutsNode, linked_node, raised_root, PutsWhole, PutsBelow, PutsRoot}
 use Rattle.tree_ckpt.proofs.Words.{Trouble, PuItem, KeptNode, Link, Reserved, PagePlan, RootPlan}
 use Rattle.tree_ckpt.proofs.Spent.{named_numbered}
 
@@ -118,7 +118,7 @@ reserves_of root page count r e = on (count == 0) refl e where
 
 module _ {A X : Type 0} (key : A → List ℕ) (bytes : Part A X → List ℕ) (root : Tree) (page : ℕ) (whole : Part A X) where
   pieces_put : (r : Reserved) → Reserves root r.first (count_of (length whole.items) - 1) r.put
-      → PutsPieces key bytes root page whole (record { reserved = r.put; puts = reverse (map (put_of bytes) (on_pages page r.first (pieces_of key r.first whole))) })
+      → PutsPieces (form_of key bytes) root page whole (record { reserved = r.put; puts = reverse (map (put_of bytes) (on_pages page r.first (pieces_of key r.first whole))) })
       (drop 1 (map entry_of (on_pages page r.first (pieces_of key r.first whole))))
   pieces_put r numbers = record {
     first = r.first;
@@ -157,7 +157,7 @@ node_puts root tree k ls p e = on (inner_of k.bytes) refl e where
       let same : nodes.in_pieces k.page (linked_node n ls) r ≡ p = cc (f) in (
         n,
         spelt,
-        subst (λ (q : PagePlan). PutsPieces entry_key node_bytes root k.page (part_of_node (linked_node n ls)) q.placing q.entries) same
+        subst (λ (q : PagePlan). PutsPieces (form_of entry_key node_bytes) root k.page (part_of_node (linked_node n ls)) q.placing q.entries) same
             (pieces_put entry_key node_bytes root k.page (part_of_node (linked_node n ls)) r
             (reserves_of root k.page (count_of (length (nodes.with_links n ls n.entries)) - 1) r is)),
       )

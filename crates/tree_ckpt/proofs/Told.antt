@@ -12,7 +12,7 @@ use Rattle.split_plan.specs.Part.{Part}
 use Rattle.split_plan.specs.Plan.{put_of, entry_of, on_pages}
 use Rattle.tree_phases.specs.Kept.{links_at}
 use Rattle.tree_ckpt.specs.Causes.{Calls, WasGot}
-use Rattle.tree_ckpt.specs.Working.{IsAmong, done_over, page_puts, reserved_before, puts_of, PutsPieces, Outcome, Planned, Spared, Passed, Visit, placing_of, held_over, visits_over, IsTurn, AreTurns, IsLeft, AreVisits, links_from, links_behind, Climb, climbs_over, links_above, AreClimbs}
+use Rattle.tree_ckpt.specs.Working.{IsAmong, done_over, page_puts, reserved_before, puts_of, PutsPieces, form_of, Outcome, Planned, Spared, Passed, Visit, placing_of, held_over, visits_over, IsTurn, AreTurns, IsLeft, AreVisits, links_from, links_behind, Climb, climbs_over, links_above, AreClimbs}
 use Rattle.tree_ckpt.proofs.Words.{Answer, Ask, Claim, NewEntry, PagePut, Placing, Link, Taken}
 use Rattle.tree_ckpt.proofs.Added.{AreWithin}
 use Rattle.tree_ckpt.proofs.Entries.{among_front, among_back, among_either}
@@ -123,7 +123,7 @@ fewer_first (x ∷ xs) = omega arith
 
 -- there are no more of them than pages that are put
 few_pieces : {A X : Type 0} (key : A → List ℕ) (bytes : Part A X → List ℕ) (root : Tree) (page : ℕ) (whole : Part A X) (placing : Placing) (named : List NewEntry)
-    → PutsPieces key bytes root page whole placing named → length (map low_of named) ≤ length placing.puts
+    → PutsPieces (form_of key bytes) root page whole placing named → length (map low_of named) ≤ length placing.puts
 few_pieces {A} {X} key bytes root page whole placing named p =
     let pages : List (ℕ × Part A X) = on_pages page p.first p.pieces in
     let lows = length-map named low_of in

@@ -5,7 +5,7 @@ use Rattle.cloud_trait.specs.declared.answer.Answer.TheVariants.{Received}
 use Rattle.cloud_trait.specs.declared.turn.CkptAnswer.{CkptAnswer}
 use Rattle.cloud_trait.specs.declared.turn.Turn.{Turn}
 use Rattle.cloud_trait.specs.Ask.{Ask}
-use Rattle.cloud_trait.specs.Machine.{Next, Goes, Ends, Stops}
+use Rattle.cloud_trait.specs.Machine.{Next, Goes, Ends, Stops, Machine, machine_by}
 use Rattle.ckpt_parts.specs.Intakes.{ids_of}
 use Rattle.tree_ckpt.specs.declared.work.Work.{Work}
 use Rattle.tree_ckpt.specs.declared.work.Work.TheVariants.{TakingTree}
@@ -66,3 +66,7 @@ SameLeases m a n = claims_in n.work ≡ claims_in m.work
 -- and so does the call with its step, but for a lease that the call gives back
 abbrev pub KeepsLeases : Making → Answer → Making → Type 0
 KeepsLeases m a n = claims_in n.work ≡ claims_in (handed m.work)
+
+-- a tree checkpoint, as a machine
+abbrev pub making_machine : Machine Making CkptAnswer
+making_machine = machine_by making_ask MakingLeads KeepsLeases

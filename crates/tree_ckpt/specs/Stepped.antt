@@ -8,12 +8,12 @@ use Rattle.cloud_trait.specs.declared.turn.CkptAnswer.{CkptAnswer}
 use Rattle.cloud_trait.specs.declared.turn.Turn.{Turn}
 use Rattle.cloud_trait.specs.declared.turn.Turn.TheVariants.{More, Ended, Stopped}
 use Rattle.cloud_trait.specs.Caller.{Caller}
-use Rattle.cloud_trait.specs.Machine.{Deed, Steps, calls_of}
+use Rattle.cloud_trait.specs.Machine.{Deed, Steps, calls_of, occasion_of}
 use Rattle.cloud_trait.specs.Seen.{Seen}
 use Rattle.cloud_trait.specs.Calm.{AreCalm}
 use Rattle.cloud_trait.specs.Plenty.{HadMemory}
 use Rattle.ckpt_parts.specs.Leasing.{outstanding}
-use Rattle.tree_ckpt.specs.Making.{Making, making_ask, MakingLeads, KeepsLeases}
+use Rattle.tree_ckpt.specs.Making.{Making, making_ask, making_machine}
 use Rattle.tree_ckpt.specs.Leases.{Went, AreReturned}
 use Rattle.tree_ckpt.specs.Causes.{Calls, Shows, kept_trouble}
 use Rattle.tree_ckpt.specs.Due.{Due, IsDue, IsCutShort, NeedsFew, WasBrought, WasLastButOne}
@@ -79,6 +79,6 @@ pub record Means (d : Deed) (h : List Deed) (old new : Making) (turn : Turn Ckpt
 -- The code made the call in hand and took a step that its answer leads to. Where the answer is want of memory, it stops for it. Whichever calls the
 -- checkpoint came by, the answer came to this behind them.
 pub record Stepped (who : Caller) (before after : Seen) (old new : Making) (turn : Turn CkptAnswer) : Type 0 where
-  pub did : Steps making_ask MakingLeads KeepsLeases who before after old new turn
+  pub did : Steps making_machine (occasion_of who before after) old new turn
   pub memory : did.answer ≡ call.Memory → turn ≡ Stopped trouble.Memory
   pub means : (h : List Deed) → Went h old → Means (deed_of who old did.answer before after) h old new turn

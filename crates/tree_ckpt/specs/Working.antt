@@ -79,21 +79,29 @@ Reserves root first count (Some bytes) =
     (first ≡ root.next) × (root.version ≢ greatest) × (root.next + count ≤ greatest)
     × (bytes ≡ tree_bytes (record root { version = root.version + 1; next = root.next + count }))
 
+-- how pieces are spelled: the key of an item, and the bytes of a piece
+pub record PieceForm (A X : Type 0) : Type 0 where
+  pub key : A → List ℕ
+  pub bytes : Part A X → List ℕ
+
+abbrev pub form_of : {A X : Type 0} → (A → List ℕ) → (Part A X → List ℕ) → PieceForm A X
+form_of key bytes = record { key = key; bytes = bytes }
+
 -- What is put for a page, and named above it: the pieces that it is cut into, of at most 64 items each, the rightmost first and that on its own page
 -- last, the new ones on the numbers that are reserved for them.
-pub record PutsPieces {A X : Type 0} (key : A → List ℕ) (bytes : Part A X → List ℕ) (root : Tree) (page : ℕ) (whole : Part A X)
-    (placing : Placing) (named : List NewEntry) : Type 0 where
+pub record PutsPieces {A X : Type 0} (form : PieceForm A X) (root : Tree) (page : ℕ) (whole : Part A X) (placing : Placing)
+    (named : List NewEntry) : Type 0 where
   pub first : ℕ
   pub pieces : List (Part A X)
-  pub cut : IsCut key first whole pieces
+  pub cut : IsCut form.key first whole pieces
   pub small : AllByRecursion (λ q. length q.items ≤ most_items) pieces
   pub numbers : Reserves root first (length pieces - 1) placing.reserved
-  pub puts : placing.puts ≡ reverse (map (put_of bytes) (on_pages page first pieces))
+  pub puts : placing.puts ≡ reverse (map (put_of form.bytes) (on_pages page first pieces))
   pub entries : named ≡ drop 1 (map entry_of (on_pages page first pieces))
 
 -- the leaf with the run applied is put
 abbrev pub PutsLeaf : Tree → ℕ → Leaf → List PuItem → PagePlan → Type 0
-PutsLeaf root page l run p = PutsPieces record_key leaf_bytes root page (part_of_leaf (applied l 0 run)) p.placing p.entries
+PutsLeaf root page l run p = PutsPieces (form_of record_key leaf_bytes) root page (part_of_leaf (applied l 0 run)) p.placing p.entries
 
 -- the next version of an inner node, with the links that go to it
 abbrev pub linked_node : Inner → List Link → Inner
@@ -102,7 +110,7 @@ linked_node n ls = record n { version = n.version + 1; entries = with_links n ls
 -- it is put
 abbrev pub PutsNode : Tree → KeptNode → List Link → PagePlan → Type 0
 PutsNode root k ls p =
-    (n : Inner) × (inner_of k.bytes ≡ Some n) × PutsPieces entry_key node_bytes root k.page (part_of_node (linked_node n ls)) p.placing p.entries
+    (n : Inner) × (inner_of k.bytes ≡ Some n) × PutsPieces (form_of entry_key node_bytes) root k.page (part_of_node (linked_node n ls)) p.placing p.entries
 
 -- ---- a way down
 

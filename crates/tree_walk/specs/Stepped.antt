@@ -5,11 +5,11 @@ use Rattle.cloud_trait.specs.declared.answer.Answer.{Answer}
 use Rattle.cloud_trait.specs.declared.turn.Turn.{Turn}
 use Rattle.cloud_trait.specs.declared.turn.Turn.TheVariants.{Stopped}
 use Rattle.cloud_trait.specs.Caller.{Caller}
-use Rattle.cloud_trait.specs.Machine.{LeadsBy, Took, Steps, Deed}
+use Rattle.cloud_trait.specs.Machine.{LeadsBy, Took, Steps, Deed, occasion_of}
 use Rattle.cloud_trait.specs.Seen.{Seen}
 use Rattle.cloud_trait.specs.Weather.{Makes}
 use Rattle.page_cache.specs.Cache.{Cache}
-use Rattle.tree_walk.specs.Walk.{Walk, asks, walk_next, ServesOn, KeepsServed, HasAim}
+use Rattle.tree_walk.specs.Walk.{Walk, asks, walk_next, ServesOn, KeepsServed, HasAim, walk_machine}
 use Rattle.tree_walk.specs.Causes.{Causes, Exact}
 use Rattle.tree_walk.specs.Meaning.{LedBy, Walked, began_with}
 use Rattle.tree_walk.specs.Served.{Serves, GoesCalmly, deed_of}
@@ -37,5 +37,5 @@ pub record Stepped (who : Caller) (before after : Seen) (old new : Walk × Cache
 
 -- the call and the step alone
 abbrev pub steps_of : {who : Caller} {before after : Seen} {old new : Walk × Cache} {turn : Turn ℕ} → Stepped who before after old new turn
-    → Steps asks (LeadsBy walk_next) KeepsServed who before after old new turn
+    → Steps walk_machine (occasion_of who before after) old new turn
 steps_of p = record { answer = p.answer; made = p.made; took = p.took }

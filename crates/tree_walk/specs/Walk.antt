@@ -16,7 +16,7 @@ use Rattle.node_codec.specs.Inner.{Inner}
 use Rattle.node_codec.specs.Tree.{Tree}
 use Rattle.cloud_trait.specs.declared.answer.Answer.{Answer}
 use Rattle.cloud_trait.specs.Ask.{Ask, Get}
-use Rattle.cloud_trait.specs.Machine.{Next, Goes, Ends, Stops}
+use Rattle.cloud_trait.specs.Machine.{Next, Goes, Ends, Stops, Machine, machine_by, LeadsBy}
 use Rattle.cloud_trait.specs.Views.{got_of}
 use Rattle.page_cache.specs.Cache.{Cache, accepts, dropped, served_at, most_kept}
 use Rattle.page_cache.specs.Held.{leaf_at, inner_at, root_at}
@@ -263,6 +263,10 @@ ServesOn c d = (name : ObjName) → served_at c name ≤ served_at d name
 -- .. at want of memory neither; a walk has no lease to keep
 abbrev pub KeepsServed : Walk × Cache → Answer → Walk × Cache → Type 0
 KeepsServed m a n = ServesOn m.1 n.1
+
+-- a walk beside its cache, as a machine
+abbrev pub walk_machine : Machine (Walk × Cache) ℕ
+walk_machine = machine_by asks (LeadsBy walk_next) KeepsServed
 
 -- ---- what is said of it
 

@@ -198,6 +198,7 @@ impl TxnBuffer {
     }
 
     /// Forgets all changes. Takes no memory.
+    #[inline(never)]
     pub fn clear(&mut self)
         ensures { self.new ≡ [] }
     {

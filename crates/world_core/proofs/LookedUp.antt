@@ -24,6 +24,7 @@ use Rattle.cloud_trait.specs.declared.answer.Answer.TheVariants.{Got, Failed, Me
 use Rattle.cloud_trait.specs.declared.state.Landing.{Landing}
 use Rattle.db_base.specs.declared.pair.Pair.{Pair}
 use Rattle.db_base.specs.declared.wish.Wish.TheVariants.{Plain}
+use Rattle.cloud_trait.specs.Machine.{occasion_of}
 use Rattle.page_cache.specs.Cache.{Cache}
 use Rattle.recover_run.specs.declared.home.Home.{Home}
 use Rattle.replay_meaning.proofs.SameLemmas.{finds_same}
@@ -194,7 +195,7 @@ module _ (lines : List Line) (who : Caller) (number : who.event ≡ length lines
     came = subst (λ (of : Query). Looked of own a.calls a.visits (a.look, (mine old).cache)) (sym a.asks) a.came
 
     -- the step of the look-up itself
-    module _ (n : Look × Cache) (to : Turn (Unit {0})) (l : StepsLook own who p.under p.to (a.look, (mine old).cache) n to) where
+    module _ (n : Look × Cache) (to : Turn (Unit {0})) (l : StepsLook own (occasion_of who p.under p.to) (a.look, (mine old).cache) n to) where
       abbrev deed : Deed
       deed = deed_of who (a.look, (mine old).cache) l.walked.answer p.under p.to
 
@@ -224,7 +225,7 @@ module _ (lines : List Line) (who : Caller) (number : who.event ≡ length lines
       d : Cache
       d = kept before after old new More a p still
 
-      on : (l : Look) → StepsLook own who p.under p.to (a.look, (mine old).cache) (l, d) More → p.session.after.work ≡ Looking home l → IsAmid new after
+      on : (l : Look) → StepsLook own (occasion_of who p.under p.to) (a.look, (mine old).cache) (l, d) More → p.session.after.work ≡ Looking home l → IsAmid new after
       on l s is = record {
         way = then;
         same = subst (HoldsSame t) told_same (same_then before after old new More a p still m More s);
@@ -279,7 +280,7 @@ module _ (lines : List Line) (who : Caller) (number : who.event ≡ length lines
       d : Cache
       d = kept before after old new turn a p still
 
-      on : (l : Look) → StepsLook own who p.under p.to (a.look, (mine old).cache) (l, d) (Ended tt) → p.session.after.shown ≡ Listed l.pairs → HasFound (items_of p.session.after)
+      on : (l : Look) → StepsLook own (occasion_of who p.under p.to) (a.look, (mine old).cache) (l, d) (Ended tt) → p.session.after.shown ≡ Listed l.pairs → HasFound (items_of p.session.after)
       on l s is = record {
         visits = visits_then before after old new turn a p still (l, d) (Ended tt) s;
         tagged = subst (λ (x : Shown). FindsTagged q own (visits_then before after old new turn a p still (l, d) (Ended tt) s) (items_in x)) (sym is)

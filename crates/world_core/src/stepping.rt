@@ -105,6 +105,7 @@ impl<S: SessionCalls> World<S> {
     }
 
     /// Makes a step between two looks, where it is a put.
+    #[inline(never)]
     fn step_looking<C: Bench>(
         &mut self,
         alloc: Global,
@@ -147,6 +148,7 @@ impl<S: SessionCalls> World<S> {
     }
 
     /// What is to be noted of the call in hand of the session.
+    #[inline(never)]
     fn note_in_hand(&self, number: SessionNo) -> Option<Note>
         ensures { HasNote number self.now.sessions result }
     {

@@ -3,7 +3,7 @@
 ghost use Rattle.std.specs.Prelude.{◌≡◌, ℕ, List, None, Some};
 ghost use Rattle.cloud_trait.specs.Ask.{Renew};
 ghost use Rattle.cloud_trait.specs.Call.{ask_of};
-ghost use Rattle.cloud_trait.specs.Machine.{LeadsBy, Took, Steps, Deed, Came};
+ghost use Rattle.cloud_trait.specs.Machine.{LeadsBy, Took, Steps, Deed, Came, occasion_of};
 ghost use Rattle.cloud_trait.specs.Weather.{Makes};
 
 use cloud_trait::answer::Answer;
@@ -43,7 +43,7 @@ impl Model for Keeper {
 }
 
 impl Keeper {
-    ghost use Rattle.cloud_tests.specs.Keeping.{Keeping, new_keeping, keeping_ask, keeping_next, lease_renewed, handed, absorbed, taken_by, put_by, renewed_by, released_by, fresh, SameLease, KeepsLease, HasKept};
+    ghost use Rattle.cloud_tests.specs.Keeping.{Keeping, new_keeping, keeping_ask, keeping_next, lease_renewed, handed, absorbed, taken_by, put_by, renewed_by, released_by, fresh, SameLease, HasKept, keeping_machine};
 
     /// A keeper that puts these bytes under a lease of the lock. Takes no memory.
     pub fn new(object: ObjName, lock: Lock, bytes: Blob) -> Keeper
@@ -174,7 +174,7 @@ impl Keeper {
 
     /// Makes the call in hand, and takes the step of its answer.
     pub fn step<C: Cloud>(&mut self, cloud: &mut C, who: Who) -> Turn<u64>
-        ensures steps { Steps keeping_ask (LeadsBy keeping_next) KeepsLease who (C.seen cloud.old) (C.seen cloud.new) self.old self.new result }
+        ensures steps { Steps keeping_machine (occasion_of who (C.seen cloud.old) (C.seen cloud.new)) self.old self.new result }
         ensures kept { (h : List Deed) (end : ℕ) → result ≡ Turn.Ended end → Came keeping_ask (LeadsBy keeping_next) (fresh self.old) h self.old → HasKept self.old h end }
     {
         let answer = self.call(cloud, who);

@@ -8,10 +8,10 @@ use Rattle.client_work.specs.declared.work.Work.TheVariants.{Idle, Paging as Pag
 use Rattle.cloud_facts.specs.Words.{Trouble, Turn, More, Ended, Stopped, CloudState, Caller, Seen, Goes, Ends, Stops, Store}
 use Rattle.cloud_trait.specs.declared.answer.Answer.TheVariants.{Memory}
 use Rattle.cloud_trait.specs.declared.turn.CkptAnswer.{CkptAnswer}
-use Rattle.cloud_trait.specs.Machine.{Steps}
+use Rattle.cloud_trait.specs.Machine.{Steps, occasion_of}
 use Rattle.cloud_trait.specs.Weather.{Rose}
 use Rattle.db_base.specs.declared.trouble.Trouble.TheVariants as trouble
-use Rattle.page_ckpt.specs.Paging.{Paging, paging_ask, PagingLeads, KeepsLeases}
+use Rattle.page_ckpt.specs.Paging.{Paging, paging_ask, paging_machine}
 use Rattle.recover_run.specs.declared.home.Home.{Home}
 use Rattle.session_facts.specs.Machines.PageCheckpoints.Knows.{KnowsPaging}
 use Rattle.session_facts.specs.Sessions.Calls.{calling_of, paging_reply}
@@ -25,7 +25,7 @@ use Rattle.session_facts.proofs.Sessions.Answered.{answered_is, stopped_none, wa
 module _ (who : Caller) (before after : Seen) (s t : CloudState) (told : before.state ≡ Some s) (told_after : after.state ≡ Some t) (st : Store) (now : ℕ) (home : Home) (p : Paging)
     (knows : KnowsPaging st now p) (tells : IsToldBy st s t) (work : Work) where
   abbrev Taken : Paging → Turn CkptAnswer → Type 0
-  Taken m turn = Steps paging_ask PagingLeads KeepsLeases who before after p m turn
+  Taken m turn = Steps paging_machine (occasion_of who before after) p m turn
 
   abbrev Does : Turn Answer → Type 0
   Does turn = Explains (paging_ask p) (before.counts, s) (after.counts, t) (PagingOn home p) work turn

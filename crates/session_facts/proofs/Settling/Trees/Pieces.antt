@@ -14,7 +14,7 @@ use Rattle.split_plan.specs.Plan.{put_of, on_pages}
 use Rattle.tree_ckpt.proofs.Pieces.{PutsParts, leaf_puts, node_puts, root_places}
 use Rattle.tree_ckpt.proofs.LeafOutcomes.{Reads}
 use Rattle.tree_ckpt.proofs.LeafOutcomes as step
-use Rattle.tree_ckpt.specs.Working.{Reserves, PutsPieces, raised_root}
+use Rattle.tree_ckpt.specs.Working.{Reserves, PutsPieces, form_of, raised_root}
 use Rattle.tree_phases.specs.declared.kept.KeptNode.{KeptNode}
 use Rattle.tree_phases.specs.declared.link.Link.{Link}
 use Rattle.tree_phases.specs.declared.placing.Placing.{Placing}
@@ -41,7 +41,7 @@ few_by root first count (Some bytes) least puts numbers none = omega arith
 few_by root first count None least puts numbers none = none numbers
 
 pieces_few : {A X : Type 0} (key : A → List ℕ) (bytes : Part A X → List ℕ) (root : Tree) (page : ℕ) (whole : Part A X) (placing : Placing) (named : List NewEntry)
-    → PutsPieces key bytes root page whole placing named → piece_calls 2 placing ≤ 2
+    → PutsPieces (form_of key bytes) root page whole placing named → piece_calls 2 placing ≤ 2
 pieces_few key bytes root page whole placing named p =
     few_by root p.first (length p.pieces - 1) placing.reserved 2 (length placing.puts) p.numbers
     (λ none. let many = ap length p.puts ∙ puts_as_many bytes page p.first p.pieces in omega (arith, many, none))

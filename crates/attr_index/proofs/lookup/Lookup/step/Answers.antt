@@ -1,6 +1,7 @@
 use Rattle.std.proofs.Common.{◌≡◌, ◌<◌, ◌^◌, length, subst, arith}
 use Rattle.byte_format.specs.Whole.{IsBytes}
 use Rattle.cloud_trait.specs.declared.turn.Turn.TheVariants.{More}
+use Rattle.cloud_trait.specs.Machine.{occasion_of}
 use Rattle.tree_walk.specs.Walk.{sought}
 use Rattle.attr_index.specs.End.{calls_left}
 use Rattle.txn_buffer.specs.Noted.{AreDistinct}
@@ -12,7 +13,7 @@ use Rattle.attr_index.proofs.lookup.Lookup.step.Goals as goal
 
 pub returns-clause-stepped : goal.returns-clause-stepped
 returns-clause-stepped g c =
-    let P : Look → Type 0 = λ s. Stepped c.args.own.now c.args.who (g.C.Cloud.seen c.args.cloud.now) (g.C.Cloud.seen c.step-moved.new.cloud) (s, c.args.cache.now) (c.walked-turn.new.self, c.walked-turn.new.cache) c.walked-turn.result in
+    let P : Look → Type 0 = λ s. Stepped c.args.own.now (occasion_of c.args.who (g.C.Cloud.seen c.args.cloud.now) (g.C.Cloud.seen c.step-moved.new.cloud)) (s, c.args.cache.now) (c.walked-turn.new.self, c.walked-turn.new.cache) c.walked-turn.result in
     subst P c.self.view_is
     (look_stepped c.args.own.now c.args.who _ _ _ _ (c.step-moved.new.self, c.step-moved.new.cache) c.step-moved.result c.walked-turn.result c.step-moved.ensures.stepped c.step-moved.ensures.ends c.walked-turn.ensures.moves c.walked-turn.ensures.served
     (subst (λ (o : Own). AreDistinct o.buffer) c.own.view_is c.len.ensures.noted.distinct))

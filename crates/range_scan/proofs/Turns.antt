@@ -1,7 +1,7 @@
 -- Where the turns of a scan lead, by those of its walk.
 use Rattle.std.proofs.Common.{◌≡◌, ℕ, false, Option, Some, None, refl, ap, sym, subst, ◌∙◌}
 use Rattle.std.specs.Prelude.{is_some}
-use Rattle.range_scan.proofs.Words.{Get, Caller, Ends, Goes, LeadsBy, Next, Steps, Stops, Took, Seen, Makes, Answer, Turn, Ended, More, Stopped, Trouble}
+use Rattle.range_scan.proofs.Words.{Get, Caller, Ends, Goes, LeadsBy, Next, Steps, Stops, Took, Seen, Makes, Answer, Turn, Ended, More, Stopped, Trouble, occasion_of}
 use Rattle.page_cache.specs.Cache.{Cache}
 use Rattle.tree_walk.specs.Moves.{Moves}
 use Rattle.tree_walk.specs.Walk.{Spot, Walk, walk_next, ServesOn, walk_machine}

@@ -1,5 +1,5 @@
 -- Which numbers keep a writer's queues short.
-use Rattle.std.proofs.Common.{◌≡◌, ℕ, ◌≤◌, ◌<◌, ◌+◌, ◌-◌, arith}
+use Rattle.std.proofs.Common.{ℕ, ◌≤◌, ◌<◌, ◌-◌, arith}
 use Rattle.std.specs.Prelude.{◌↔◌}
 use Rattle.ckpt_policy.specs.Ledger.{IsNumber, StaysShort}
 

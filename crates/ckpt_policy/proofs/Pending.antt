@@ -1,7 +1,7 @@
 -- What is due are pending update queues.
-use Rattle.std.proofs.Common.{◌≡◌, ℕ, Bool, true, false, List, map, take, ap, sym, subst, ◌∙◌}
+use Rattle.std.proofs.Common.{◌≡◌, Bool, true, false, List, map, take, sym, subst, ◌∙◌}
 use Rattle.std.specs.Prelude.{◌==◌, All, if◌then◌else◌}
-use Rattle.std.specs.List.{filter, take-map}
+use Rattle.std.specs.List.{take-map}
 use Rattle.std.proofs.lemmas.List.Elements.{All-map}
 use Rattle.ckpt_policy.specs.declared.counts.Counts.{Counts}
 use Rattle.ckpt_policy.specs.declared.place.Place.{Place}

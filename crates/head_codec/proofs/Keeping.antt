@@ -1,5 +1,5 @@
 -- What keeps a head's spelling.
-use Rattle.std.proofs.Common.{◌-◌, ◌≤◌, Bool, true, false, cond, List, [], ◌∷◌, ◌++◌, None, filter, arith}
+use Rattle.std.proofs.Common.{◌≤◌, Bool, true, false, cond, List, [], ◌∷◌, ◌++◌, None, filter, arith}
 use Rattle.std.specs.List.{AllByRecursion}
 use Rattle.head_codec.specs.declared.head.Head.{Head}
 use Rattle.head_codec.specs.declared.lists.Pending.{Pending}

@@ -1,5 +1,5 @@
 -- The order in which the records of a queue are applied.
-use Rattle.std.specs.Prelude.{ℕ, ◌<◌, ◌^◌, List, All, IsSorted}
+use Rattle.std.specs.Prelude.{◌<◌, ◌^◌, List, All, IsSorted}
 use Rattle.std.specs.declared.cmp.Ordering.{Ordering}
 use Rattle.std.specs.Ordering.{nat_cmp, ordering_then}
 use Rattle.std.specs.Cmp.Lexicographic.{slice_cmp}

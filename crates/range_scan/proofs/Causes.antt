@@ -1,5 +1,5 @@
 -- Why a scan stops: by the answer of its call, or by the leaves that it read.
-use Rattle.std.proofs.Common.{◌≡◌, ◌≢◌, ◌<◌, ◌⊎◌, ℕ, true, List, Option, Some, None, inl, inr, refl, ap, sym, subst, arith, ◌∙◌}
+use Rattle.std.proofs.Common.{◌≡◌, ◌≢◌, ◌<◌, ◌⊎◌, ℕ, true, List, Option, Some, None, inl, inr, refl, ap, sym, subst, arith}
 use Rattle.range_scan.proofs.Words.{Get, Caller, Ends, Goes, LeadsBy, Next, Stops, Took, Seen, Makes, Answer, Turn, Stopped, Trouble, Leaf}
 use Rattle.db_base.specs.declared.trouble.Trouble.TheVariants as trouble
 use Rattle.cloud_trait.specs.declared.answer.Answer.TheVariants as answer
@@ -7,7 +7,7 @@ use Rattle.cloud_trait.specs.Weather.{Fits}
 use Rattle.cloud_trait.specs.Calm.{IsCalm}
 use Rattle.page_cache.specs.Cache.{Cache}
 use Rattle.page_cache.specs.Held.{leaf_at}
-use Rattle.tree_walk.specs.Walk.{Spot, Walk, IsWalk, object_of, walk_next}
+use Rattle.tree_walk.specs.Walk.{Spot, IsWalk, object_of}
 use Rattle.tree_walk.specs.Causes.{Shows as WalkShows}
 use Rattle.tree_walk.proofs.Calm.{shows_failed as walk_failed}
 use Rattle.tree_walk.proofs.Causes.{StopsBeside, nothing_got}

@@ -1,26 +1,24 @@
 -- Where the answer shows a trouble, or what it brings shows one, a scan stops with that.
-use Rattle.std.proofs.Common.{◌≡◌, ◌≢◌, ◌⊎◌, ℕ, Bool, true, false, List, [], ◌∷◌, ◌++◌, Option, Some, None, Result, Ok, Err, inl, inr, unwrap_or, refl, ap, sym, subst, ◌∙◌}
+use Rattle.std.proofs.Common.{◌≡◌, ◌⊎◌, ℕ, Bool, true, false, List, [], ◌∷◌, ◌++◌, Option, Some, None, Result, Ok, Err, inl, inr, unwrap_or, refl, ap, sym, subst, ◌∙◌}
 use Rattle.std.specs.Prelude.{◌&&◌, ◌||◌, ◌==◌, if◌then◌else◌}
-use Rattle.std.specs.Option.{option_map}
 use Rattle.byte_format.specs.Order.{bytes_same, below_bound}
 use Rattle.db_base.specs.declared.names.ObjName.{ObjName}
 use Rattle.db_base.specs.declared.names.ObjName.TheVariants as object
-use Rattle.range_scan.proofs.Words.{Ends, Goes, LeadsBy, Next, Stops, Took, Answer, Turn, Ended, More, Stopped, Trouble, Leaf, page_at}
+use Rattle.range_scan.proofs.Words.{Ends, LeadsBy, Next, Stops, Took, Answer, Turn, Ended, More, Stopped, Trouble, Leaf, page_at}
 use Rattle.db_base.specs.declared.trouble.Trouble.TheVariants as trouble
 use Rattle.cloud_trait.specs.declared.answer.Answer.TheVariants as answer
-use Rattle.cloud_trait.specs.Views.{got_of}
 use Rattle.page_cache.specs.Cache.{Cache, IsCache, accepts, kept_at}
-use Rattle.page_cache.specs.Held.{leaf_at, inner_at, as_leaf}
+use Rattle.page_cache.specs.Held.{leaf_at, as_leaf}
 use Rattle.page_cache.specs.Refused.{IsDamaged}
 use Rattle.page_cache.proofs.CacheLemmas.{accept_kept}
 use Rattle.tree_walk.specs.Moves.{Moves}
-use Rattle.tree_walk.specs.Walk.{Spot, Walk, IsWalk, sought, spot_of, is_leaf, object_at, object_of, is_page, is_among, came_to, use_of, right_of, bad_fence, leaf_left, leaf_read, node_read, read_at, read_from, follow, goes_on, accepted_by, left_by, beside, rested, walk_ready, walk_next}
+use Rattle.tree_walk.specs.Walk.{Spot, Walk, IsWalk, sought, is_leaf, object_at, object_of, is_page, is_among, came_to, use_of, right_of, read_from, follow, goes_on, accepted_by, left_by, beside, rested, walk_ready, walk_next}
 use Rattle.tree_walk.specs.Causes.{FailsSo, IsOld, IsStopped, Meets}
 use Rattle.tree_walk.proofs.Causes.{ready_shows}
 use Rattle.tree_walk.proofs.Demands.{answer_stops, moved_stopped, brought_meets, ready_meets}
 use Rattle.tree_walk.proofs.Refusals.{old_refused, damaged_refused}
 use Rattle.tree_walk.proofs.Served.{IsServedBy, end_served}
-use Rattle.range_scan.specs.Scan.{Scan, scan_object, right_in, scan_came_to, right_behind, ended_at, leaf_ended, first_in, scan_beside, walked_by, right_read_in, right_accepted, right_got, scan_ready, next_at, scan_next, KeepsServed}
+use Rattle.range_scan.specs.Scan.{Scan, scan_came_to, right_behind, ended_at, leaf_ended, first_in, scan_beside, walked_by, scan_ready, next_at, scan_next, KeepsServed}
 use Rattle.range_scan.specs.Meaning.{Range, Move, Scanned, scan_of}
 use Rattle.range_scan.specs.Causes.{RefusesSo, BreaksFence, CausesReady, FirstLeadsBack, LeadsBack, IsExactWalk, IsExactRight, Exact}
 use Rattle.range_scan.proofs.Meaning.{walk_of, scanned_stands}

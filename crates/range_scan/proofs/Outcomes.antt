@@ -11,7 +11,7 @@ use Rattle.cloud_trait.proofs.ViewLemmas.{got_of-ok}
 use Rattle.page_cache.specs.Cache.{Cache, accepts}
 use Rattle.page_cache.specs.Held.{leaf_at}
 use Rattle.page_cache.proofs.ViewLemmas.{accept_leaf}
-use Rattle.tree_walk.specs.Walk.{Spot, Walk, object_of, rested, walk_ready, walk_next}
+use Rattle.tree_walk.specs.Walk.{Spot, Walk, object_of, walk_ready, walk_next}
 use Rattle.tree_walk.proofs.Outcomes.{readies}
 use Rattle.tree_walk.proofs.Outcomes.{Readies as WalkReadies}
 use Rattle.range_scan.specs.Scan.{Scan, scan_object_at, scan_object, scan_came_to, right_behind, ended_at, leaf_ended, first_in, scan_beside, walked_by, right_read_in, right_accepted, right_got, scan_ready, next_at, scan_next}

@@ -1,6 +1,6 @@
 -- One step of a scan, read off where its answer leads.
 use Rattle.std.proofs.Common.{ℕ, Option, ap}
-use Rattle.range_scan.proofs.Words.{Get, Caller, LeadsBy, Steps, Seen, Turn, occasion_of}
+use Rattle.range_scan.proofs.Words.{Get, Caller, Steps, Seen, Turn, occasion_of}
 use Rattle.page_cache.specs.Cache.{Cache}
 use Rattle.tree_walk.specs.Walk.{ServesOn}
 use Rattle.tree_walk.specs.Walk.{Spot}

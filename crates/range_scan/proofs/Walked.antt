@@ -1,5 +1,5 @@
 -- While its walk is in hand, all calls of a scan are those of the walk.
-use Rattle.std.proofs.Common.{◌≡◌, ℕ, Bool, true, false, List, [], ◌∷◌, Option, Some, None, refl, ap, sym, subst, ◌∙◌}
+use Rattle.std.proofs.Common.{◌≡◌, Bool, true, false, List, [], ◌∷◌, Option, Some, None, refl, ap, sym, subst, ◌∙◌}
 use Rattle.std.specs.Prelude.{if◌then◌else◌}
 use Rattle.range_scan.proofs.Words.{Get, Goes, Leaf}
 use Rattle.page_cache.specs.Cache.{Cache}

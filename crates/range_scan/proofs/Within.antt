@@ -6,12 +6,12 @@ use Rattle.std.proofs.lemmas.Bool.{eqb-true}
 use Rattle.byte_format.specs.Order.{below_bound}
 use Rattle.range_scan.proofs.Words.{Ends, Goes, Next, Stops, Answer, Leaf}
 use Rattle.page_cache.specs.Cache.{Cache}
-use Rattle.tree_walk.specs.Walk.{Spot, Walk, is_page, is_among, came_to, use_of, rested, walk_next, pages, spots}
+use Rattle.tree_walk.specs.Walk.{Spot, Walk, is_page, is_among, came_to, use_of, rested, pages, spots}
 use Rattle.tree_walk.specs.Within.{AreOnce, IsOnce}
 use Rattle.tree_walk.proofs.End.{more_pages}
 use Rattle.tree_walk.proofs.Within.{or_false, once_push, among_push, once_goes, once_begun}
 use Rattle.tree_walk.proofs.Served.{ended_as}
-use Rattle.range_scan.specs.Scan.{Scan, scan_came_to, is_wanted, goes_on, moved_on, scan_ready, scan_next}
+use Rattle.range_scan.specs.Scan.{Scan, scan_came_to, is_wanted, goes_on, moved_on, scan_next}
 use Rattle.range_scan.specs.Meaning.{Range, scan_of, Move, LedTo, Scanned}
 use Rattle.range_scan.specs.Within.{scan_pages, IsScannedOnce, ScansWithin}
 use Rattle.range_scan.proofs.Outcomes as step

@@ -1,5 +1,5 @@
 -- How far items lead on the way through them.
-use Rattle.std.specs.Prelude.{◌≡◌, ◌≢◌, ◌⊎◌, ℕ, ◌+◌, ◌<◌, ◌≤◌, false, true, List}
+use Rattle.std.specs.Prelude.{◌≡◌, ◌⊎◌, ℕ, ◌+◌, ◌<◌, ◌≤◌, false, true, List}
 use Rattle.db_base.specs.Cursor.{number_of, SetsNumber}
 use Rattle.log_codec.specs.declared.record.PuItem.{PuItem}
 use Rattle.run_cursor.specs.Run.{has_number, Raises}

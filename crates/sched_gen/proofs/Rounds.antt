@@ -1,7 +1,7 @@
 -- Steps of the generator.
-use Rattle.std.proofs.Common.{◌≡◌, ℕ, zero, suc, ◌+◌, ◌-◌, ◌*◌, ◌/◌, ◌%◌, ◌^◌, ◌<◌, ◌≤◌, List, [], ◌∷◌, ◌++◌, refl, sym, ap, ◌∙◌, arith}
+use Rattle.std.proofs.Common.{◌≡◌, ℕ, suc, ◌+◌, ◌-◌, ◌*◌, ◌%◌, ◌^◌, ◌≤◌, [], ◌++◌, refl, arith}
 use Rattle.std.proofs.Math.Nat.{mod-add-mod}
-use Rattle.sched_gen.specs.Schedule.{next_state, drawn, round_events, state_after, rounds}
+use Rattle.sched_gen.specs.Schedule.{next_state, round_events, state_after, rounds}
 
 pub wrapped : (x : ℕ) → (x * 6364136223846793005 % 2 ^ 64 + 1442695040888963407) % 2 ^ 64 ≡ next_state x
 unfolding next_state

@@ -1,8 +1,7 @@
 -- Where the way up goes on.
-use Rattle.std.proofs.Common.{◌≡◌, ◌+◌, ℕ, List, Option, Some, None, Result, sym, ap, subst, ◌∙◌}
+use Rattle.std.proofs.Common.{◌≡◌, ◌+◌, ℕ, List, Option, Some, None, Result, ap, subst, ◌∙◌}
 use Rattle.std.specs.Prelude.{slice_get}
 use Rattle.db_base.specs.declared.trouble.Trouble.{Trouble}
-use Rattle.cloud_trait.specs.Machine.{Next}
 use Rattle.node_codec.specs.Tree.{Tree}
 use Rattle.ckpt_parts.specs.declared.fault.Fault.{Fault}
 use Rattle.tree_phases.specs.declared.kept.KeptNode.{KeptNode}
@@ -13,7 +12,7 @@ use Rattle.tree_phases.specs.Read.{tree_held}
 use Rattle.tree_phases.specs.declared.page_plan.PagePlan.{PagePlan}
 use Rattle.tree_phases.specs.declared.rising.Rising.{Rising}
 use Rattle.tree_phases.specs.Nodes.{node_plan}
-use Rattle.tree_phases.specs.Rising.{RisingStep, next_touched, touched_node, FindsPlan, put_node, finish, rise_at, rise}
+use Rattle.tree_phases.specs.Rising.{next_touched, touched_node, FindsPlan, put_node, finish, rise_at, rise}
 
 -- what was planned from the parts of the chart
 pub found_some : (r : Rising) (at next level : ℕ) (root : Tree) (ls : List Link) (k : KeptNode) (plan : Result PagePlan Fault)

@@ -1,13 +1,12 @@
 -- The tree object as it is held and raised.
-use Rattle.std.proofs.Common.{◌≡◌, ℕ, Bool, true, false, cond, eqb, List, [], ◌∷◌, Option, Some, Result, Ok, Err, refl, sym, ap, subst, ◌∙◌}
+use Rattle.std.proofs.Common.{◌≡◌, ℕ, Bool, true, false, cond, eqb, List, [], ◌∷◌, Option, Some, Ok, Err, refl, sym, ap, ◌∙◌}
 use Rattle.std.specs.Prelude.{◌+◌, nat_lt, unwrap_or}
-use Rattle.db_base.specs.declared.trouble.Trouble.{Trouble}
-use Rattle.node_codec.specs.Tree.{Tree, HasTreeSpelling, tree_bytes, tree_of, empty_tree, with_child}
+use Rattle.node_codec.specs.Tree.{Tree, HasTreeSpelling, tree_bytes, empty_tree, with_child}
 use Rattle.node_codec.specs.Node.{raised, with_entry}
 use Rattle.node_codec.proofs.SpellingLaws.{tree_again}
 use Rattle.tree_phases.specs.declared.link.Link.{Link}
 use Rattle.tree_phases.specs.Read.{tree_held}
-use Rattle.tree_phases.specs.Reserve.{next_tree, version_spent}
+use Rattle.tree_phases.specs.Reserve.{version_spent}
 use Rattle.tree_phases.specs.Root.{is_named, with_named, risen, risen_by, raised_root}
 
 -- the tree object of its own spelling

@@ -8,7 +8,6 @@ use Rattle.leaf_view.proofs.Exact.{leaf_exact}
 use Rattle.node_codec.specs.Inner.{Inner, IsInner, inner_of, inner_format}
 use Rattle.node_codec.specs.Tree.{Tree, IsTree, tree_bytes, tree_of, empty_tree}
 use Rattle.node_codec.proofs.SpellingLaws.{tree_only, tree_found, inner_only, inner_found}
-use Rattle.db_base.specs.declared.trouble.Trouble.{Trouble}
 use Rattle.tree_phases.specs.Read.{tree_held, damaged, inner_or, inner_read, leaf_or, leaf_read}
 
 pub tree_is : (bytes : List ℕ) (t : Tree) → IsTree bytes t → t ≡ tree_held (Some bytes)

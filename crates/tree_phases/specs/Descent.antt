@@ -15,7 +15,6 @@ use Rattle.tree_phases.specs.declared.chart.Chart.{Chart}
 use Rattle.ckpt_parts.specs.declared.fault.Fault.{Fault}
 use Rattle.tree_phases.specs.Going.{Finds}
 use Rattle.tree_phases.specs.declared.kept.KeptNode.{KeptNode}
-use Rattle.tree_phases.specs.declared.link.Link.{Link}
 use Rattle.tree_phases.specs.Kept.{with_kept}
 use Rattle.tree_phases.specs.Read.{damaged, inner_read, tree_held}
 use Rattle.tree_phases.specs.declared.descent.Descent.{Descent}

@@ -1,5 +1,5 @@
 -- A leaf under its lease, as a machine.
-use Rattle.std.specs.Prelude.{ℕ, ◌≡◌, ◌+◌, ◌==◌, ◌||◌, List, [], ◌∷◌, ◌++◌, length, Option, Some, None, Result, Ok, Err, unwrap_or, if◌then◌else◌}
+use Rattle.std.specs.Prelude.{ℕ, ◌+◌, ◌==◌, ◌||◌, List, [], ◌∷◌, ◌++◌, length, Option, Some, None, Result, Ok, Err, unwrap_or, if◌then◌else◌}
 use Rattle.byte_format.specs.Order.{bytes_below, bytes_same}
 use Rattle.db_base.specs.declared.names.ObjName.TheVariants as object
 use Rattle.db_base.specs.declared.trouble.Trouble.{Trouble}
@@ -15,7 +15,6 @@ use Rattle.leaf_edit.specs.Lacked.{lacked}
 use Rattle.log_codec.specs.declared.record.PuItem.{PuItem}
 use Rattle.run_cursor.specs.Covered.{is_seen}
 use Rattle.tree_phases.specs.declared.chart.Chart.{Chart}
-use Rattle.tree_phases.specs.declared.link.Link.{Link}
 use Rattle.tree_phases.specs.declared.placing.Placing.{Placing}
 use Rattle.tree_phases.specs.Kept.{links_at}
 use Rattle.tree_phases.specs.Placing.{put_in_hand, landed_root, landed_placing, has_nothing, has_one_page}

@@ -1,7 +1,6 @@
 -- What the work between two calls finds, and how a phase goes on.
 use Rattle.std.specs.Prelude.{◌≡◌, Result, Ok, Err}
 use Rattle.db_base.specs.declared.trouble.Trouble.{Trouble}
-use Rattle.cloud_trait.specs.declared.answer.Answer.{Answer}
 use Rattle.cloud_trait.specs.Machine.{Next, Goes, Ends, Stops}
 use Rattle.ckpt_parts.specs.declared.fault.Fault.{Fault}
 use Rattle.ckpt_parts.specs.declared.fault.Fault.TheVariants as fault

@@ -1,5 +1,5 @@
 -- Numbers of new pages, reserved by a put of the tree object.
-use Rattle.std.specs.Prelude.{ℕ, ◌+◌, ◌==◌, nat_lt, List, Option, Some, None, Result, Ok, Err, if◌then◌else◌}
+use Rattle.std.specs.Prelude.{ℕ, ◌+◌, ◌==◌, nat_lt, Some, None, Result, Ok, Err, if◌then◌else◌}
 use Rattle.byte_format.specs.Format.{greatest}
 use Rattle.tree_phases.specs.declared.reserve.Reserved.{Reserved}
 use Rattle.db_base.specs.declared.trouble.Trouble.{Trouble}

@@ -1,5 +1,5 @@
 -- Where its call is calm, a walk does not stop as failed, and a page that it calls stale is so in its newest version.
-use Rattle.std.proofs.Common.{◌≡◌, ◌≢◌, ℕ, List, Option, Some, refl, ap, subst, inl, inr, ◌⊎◌, arith}
+use Rattle.std.proofs.Common.{◌≡◌, ◌≢◌, ℕ, List, Option, Some, refl, ap, subst, inl, inr, arith}
 use Rattle.tree_walk.proofs.Words.{Get, Caller, Seen, Makes, Answer, Turn, Stopped, Trouble}
 use Rattle.db_base.specs.declared.trouble.Trouble.TheVariants as trouble
 use Rattle.cloud_trait.specs.declared.answer.Answer.TheVariants as answer
@@ -7,10 +7,9 @@ use Rattle.cloud_trait.specs.State.{CloudState, newest}
 use Rattle.cloud_trait.specs.Weather.{Rose}
 use Rattle.cloud_trait.specs.Calm.{IsCalm}
 use Rattle.page_cache.specs.Cache.{Cache}
-use Rattle.page_cache.specs.Refused.{IsDamaged}
 use Rattle.tree_walk.specs.Moves.{Moves}
 use Rattle.tree_walk.specs.Walk.{Walk, is_leaf, object_of, walk_ask, walk_next}
-use Rattle.tree_walk.specs.Causes.{BreaksLevel, BreaksFence, IsOld, LinkShows, Shows}
+use Rattle.tree_walk.specs.Causes.{IsOld, LinkShows, Shows}
 use Rattle.tree_walk.specs.Served.{deed_of, GoesCalmly}
 use Rattle.tree_walk.proofs.Causes.{moved_shows}
 use Rattle.tree_walk.proofs.Served.{get_row, steady}

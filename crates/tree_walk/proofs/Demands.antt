@@ -1,12 +1,11 @@
 -- Where the answer shows a trouble, or the objects that the cache keeps show one on the walk's way, it stops with that.
-use Rattle.std.proofs.Common.{◌≡◌, ◌≢◌, ℕ, zero, suc, Bool, true, false, List, [], ◌∷◌, ◌++◌, Option, Some, None, Result, Ok, Err, unwrap_or, refl, ap, sym, subst, ◌∙◌, inl, inr, ◌⊎◌}
+use Rattle.std.proofs.Common.{◌≡◌, ◌≢◌, ℕ, zero, suc, Bool, true, false, List, [], ◌∷◌, ◌++◌, Option, Some, None, Result, Err, unwrap_or, refl, ap, sym, subst, ◌∙◌, inl, inr, ◌⊎◌}
 use Rattle.std.specs.Prelude.{if◌then◌else◌, ◌==◌, ◌||◌}
 use Rattle.std.specs.Option.{option_map}
 use Rattle.std.proofs.lemmas.Bool.{eqb-true}
 use Rattle.byte_format.specs.Order.{bytes_same}
-use Rattle.tree_walk.proofs.Words.{Ends, Goes, Next, Stops, Answer, Turn, Ended, More, Stopped, ObjName, Trouble, Leaf, Inner, page_at as node_at, Tree}
+use Rattle.tree_walk.proofs.Words.{Ends, Goes, Next, Stops, Answer, Turn, Ended, More, Stopped, ObjName, Trouble, Leaf, Inner, page_at as node_at}
 use Rattle.db_base.specs.declared.names.ObjName.TheVariants as object
-use Rattle.db_base.specs.declared.names.Place.TheVariants as place
 use Rattle.db_base.specs.declared.trouble.Trouble.TheVariants as trouble
 use Rattle.leaf_view.specs.Lookup.{page_at}
 use Rattle.page_cache.specs.Cache.{Cache, IsCache, accepts}

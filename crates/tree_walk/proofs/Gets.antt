@@ -1,9 +1,9 @@
 -- A walk gets what the cache does not keep, leaves, and the tree object where it is fresh: it passes no kept object twice, and 64 are kept at most.
-use Rattle.std.proofs.Common.{◌≡◌, ℕ, zero, suc, ◌<◌, ◌≤◌, Bool, true, false, cond, not, List, [], ◌∷◌, ◌++◌, length, take, Option, Some, None, Result, Ok, refl, ap, sym, subst, ◌∙◌, inl, inr, ◌⊎◌, arith}
+use Rattle.std.proofs.Common.{◌≡◌, ℕ, zero, suc, ◌<◌, ◌≤◌, Bool, true, false, cond, not, List, [], ◌∷◌, ◌++◌, length, take, Option, Some, None, Ok, refl, ap, sym, subst, ◌∙◌, inl, inr, ◌⊎◌, arith}
 use Rattle.std.specs.Prelude.{if◌then◌else◌, IfSome, ◌==◌, ◌||◌}
 use Rattle.std.specs.Option.{option_map}
 use Rattle.std.specs.Map.{lookup, remove_entry}
-use Rattle.tree_walk.proofs.Words.{Ends, Goes, Next, Stops, Answer, Turn, More, ObjName, Trouble, Leaf, Inner, Tree}
+use Rattle.tree_walk.proofs.Words.{Ends, Goes, Next, Stops, Answer, Turn, More, ObjName, Trouble, Inner, Tree}
 use Rattle.db_base.specs.declared.names.ObjName.TheVariants as object
 use Rattle.page_cache.specs.Cache.{Cache, IsCache, accepts, kept_at}
 use Rattle.page_cache.specs.Held.{leaf_at, inner_at, root_at, as_inner, as_root}

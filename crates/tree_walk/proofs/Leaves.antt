@@ -11,7 +11,7 @@ use Rattle.page_cache.specs.Cache.{Cache, dropped, kept_at}
 use Rattle.page_cache.specs.Held.{leaf_at, as_leaf}
 use Rattle.page_cache.proofs.CacheLemmas.{drop_others}
 use Rattle.tree_walk.specs.Moves.{Moves}
-use Rattle.tree_walk.specs.Walk.{Spot, Walk, IsApart, IsPromised, IsWalk, IsAtLeaf, sought, is_among, object_at, object_of, right_of, passed, left_by, rested, walk_next}
+use Rattle.tree_walk.specs.Walk.{Walk, IsApart, IsPromised, IsWalk, IsAtLeaf, sought, is_among, object_at, object_of, right_of, passed, left_by, rested, walk_next}
 use Rattle.tree_walk.proofs.Outcomes as step
 use Rattle.tree_walk.proofs.Outcomes.{Arrives, EndsAt, came_by}
 

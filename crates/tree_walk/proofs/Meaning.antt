@@ -1,13 +1,13 @@
 -- What led a walk to the page in hand, read off its calls.
-use Rattle.std.proofs.Common.{◌≡◌, ℕ, Bool, true, false, true≢false, List, [], ◌∷◌, Option, Some, None, Result, Ok, Err, unwrap_or, refl, ap, sym, subst, ◌∙◌, inl, inr, ◌⊎◌}
-use Rattle.tree_walk.proofs.Words.{Get, Goes, Answer, ObjName}
+use Rattle.std.proofs.Common.{◌≡◌, ℕ, Bool, true, false, true≢false, List, [], ◌∷◌, Option, Some, None, Ok, unwrap_or, refl, ap, sym, subst, ◌∙◌, inl, inr, ◌⊎◌}
+use Rattle.tree_walk.proofs.Words.{Get, Goes}
 use Rattle.cloud_trait.specs.declared.answer.Answer.TheVariants as answer
 use Rattle.cloud_trait.specs.Machine.{Deed}
 use Rattle.page_cache.specs.Cache.{Cache, accepts, kept_at}
 use Rattle.page_cache.specs.Names.{same_name}
 use Rattle.page_cache.proofs.CacheLemmas.{accept_kept, accept_others}
 use Rattle.page_cache.proofs.NameLemmas.{same_name-is, same_name-refl}
-use Rattle.tree_walk.specs.Walk.{Spot, Walk, new_walk, sought, object_of, is_leaf, asks, rested, walk_ready, walk_next}
+use Rattle.tree_walk.specs.Walk.{Spot, Walk, new_walk, sought, object_of, is_leaf, asks, rested, walk_next}
 use Rattle.tree_walk.specs.Within.{IsBegun}
 use Rattle.tree_walk.specs.Causes.{IsLinked, WasLed}
 use Rattle.tree_walk.specs.Meaning.{WasGot, HasRead, LinksTo, WasLinked, Walked, began_with, LedBy}

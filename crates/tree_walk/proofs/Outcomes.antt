@@ -13,7 +13,7 @@ use Rattle.cloud_trait.proofs.ViewLemmas.{got_of-ok}
 use Rattle.page_cache.specs.Cache.{Cache, accepts}
 use Rattle.page_cache.specs.Held.{leaf_at, inner_at, root_at}
 use Rattle.page_cache.proofs.ViewLemmas.{accept_leaf, accept_inner, accept_root}
-use Rattle.tree_walk.specs.Walk.{Spot, Walk, sought, spot_of, is_leaf, is_leaf_at, is_got, object_at, object_of, came_to, use_of, entry_for, right_of, linked, bad_fence, bad_level, node_left, node_passed, leaf_left, leaf_passed, root_read, node_read, leaf_read, read_at, read_from, read_kept, follow, onward, goes_through, goes_on, got_read, accepted_by, got_by, left_by, beside, rested, walk_ready, walk_next}
+use Rattle.tree_walk.specs.Walk.{Spot, Walk, sought, is_leaf, is_leaf_at, is_got, object_at, object_of, came_to, use_of, entry_for, right_of, linked, bad_fence, bad_level, node_left, node_passed, leaf_left, leaf_passed, root_read, node_read, leaf_read, read_at, read_from, read_kept, follow, onward, goes_through, goes_on, got_read, accepted_by, got_by, left_by, beside, rested, walk_ready, walk_next}
 use Rattle.tree_walk.specs.Causes.{below, aside, node_link, node_link_by, BreaksLevel, BreaksFence}
 
 -- ---- one object

@@ -1,6 +1,6 @@
 -- What a walk is served: at its end the leaf is what its newest get answered.
 use Rattle.std.proofs.Common.{◌≡◌, ℕ, List, Option, Some, refl, ap, sym, subst, ◌∙◌, inl, inr, ◌⊎◌, arith}
-use Rattle.tree_walk.proofs.Words.{Get, Caller, Ends, Seen, Makes, Answer, Turn, Ended, ObjName, Leaf}
+use Rattle.tree_walk.proofs.Words.{Get, Caller, Ends, Seen, Makes, Answer, Turn, ObjName, Leaf}
 use Rattle.db_base.specs.declared.names.ObjName.TheVariants as object
 use Rattle.cloud_trait.specs.declared.answer.Answer.TheVariants as answer
 use Rattle.cloud_trait.specs.State.{CloudState, newest, version_at}
@@ -10,7 +10,7 @@ use Rattle.page_cache.specs.Held.{leaf_at, as_leaf}
 use Rattle.page_cache.proofs.CacheLemmas.{accept_kept}
 use Rattle.tree_walk.specs.Moves.{Moves}
 use Rattle.tree_walk.specs.Walk.{Walk, IsWalk, IsAtLeaf, is_leaf, object_of, use_of, rested, walk_ask, walk_next}
-use Rattle.tree_walk.specs.Served.{IsServed, Serves}
+use Rattle.tree_walk.specs.Served.{Serves}
 use Rattle.tree_walk.proofs.Leaves.{arrives_in_hand, ended_at, ends_at, kept_stays}
 use Rattle.tree_walk.proofs.Outcomes as step
 use Rattle.tree_walk.proofs.Outcomes.{Arrives, came_by}

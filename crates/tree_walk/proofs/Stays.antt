@@ -1,6 +1,6 @@
 -- A walk stays one to its key in its tree: the low key that a link promised is not above the key, and a leaf in hand is none of the inner
 -- nodes that it passed.
-use Rattle.std.proofs.Common.{◌≡◌, ℕ, Bool, true, false, List, [], ◌∷◌, Option, Some, None, unwrap_or, refl, subst}
+use Rattle.std.proofs.Common.{◌≡◌, ℕ, Bool, true, false, List, [], Option, Some, None, unwrap_or, refl, subst}
 use Rattle.std.specs.Prelude.{if◌then◌else◌, ◌||◌}
 use Rattle.byte_format.specs.Order.{bytes_below}
 use Rattle.tree_walk.proofs.Words.{Ends, Goes, Next, Stops, Answer, Trouble, Inner, page_at as node_at}

@@ -1,5 +1,5 @@
 -- One step of a walk, read off where its answer leads.
-use Rattle.std.proofs.Common.{◌≡◌, ◌≢◌, ◌≤◌, ℕ, Bool, true, false, List, [], ◌∷◌, Option, Result, Ok, Err, refl, ap, sym, subst, ◌∙◌, arith}
+use Rattle.std.proofs.Common.{◌≡◌, ◌≢◌, ◌≤◌, ℕ, Bool, true, false, List, [], ◌∷◌, Option, Result, Ok, Err, refl, ap, subst, ◌∙◌, arith}
 use Rattle.std.specs.Prelude.{fold, if◌then◌else◌}
 use Rattle.tree_walk.proofs.Words.{Caller, Seen, Makes, Answer, Turn, Ended, More, Stopped, ObjName, Trouble}
 use Rattle.db_base.specs.declared.trouble.Trouble.TheVariants as trouble

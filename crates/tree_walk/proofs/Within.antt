@@ -1,5 +1,5 @@
 -- A walk comes to each of its pages once, and to one more at least with each call.
-use Rattle.std.proofs.Common.{◌≡◌, ◌≢◌, ℕ, zero, suc, ◌+◌, ◌≤◌, ◌<◌, Bool, true, false, List, [], ◌∷◌, ◌++◌, length, Option, Some, None, refl, ap, sym, subst, ◌∙◌, arith}
+use Rattle.std.proofs.Common.{◌≡◌, ◌≢◌, ℕ, ◌+◌, ◌≤◌, ◌<◌, Bool, true, false, List, [], ◌∷◌, ◌++◌, length, Option, Some, None, refl, ap, sym, subst, ◌∙◌, arith}
 use Rattle.std.specs.Prelude.{◌==◌, ◌||◌}
 use Rattle.std.specs.List.{AllByRecursion, IsDistinct}
 use Rattle.std.proofs.lemmas.Bool.{eqb-true}
@@ -9,7 +9,7 @@ use Rattle.db_base.specs.declared.trouble.Trouble.TheVariants as trouble
 use Rattle.cloud_trait.specs.Machine.{Deed, Came, LeadsBy}
 use Rattle.page_cache.specs.Cache.{Cache}
 use Rattle.tree_walk.specs.Moves.{Moves}
-use Rattle.tree_walk.specs.Walk.{Spot, Walk, new_walk, is_among, is_page, came_to, rested, walk_ready, walk_next, asks, pages}
+use Rattle.tree_walk.specs.Walk.{Spot, Walk, new_walk, is_among, is_page, came_to, rested, walk_next, asks, pages}
 use Rattle.tree_walk.specs.Within.{IsBegun, Went, AreOnce, IsPassedOnce, IsOnce, WalksWithin}
 use Rattle.tree_walk.proofs.End.{more_pages}
 use Rattle.tree_walk.proofs.Outcomes as step

@@ -1,4 +1,4 @@
-use Rattle.std.proofs.Common.{◌≡◌, ◌≤◌, ◌+◌, ◌-◌, ◌++◌, List, sym, ap, ◌∙◌, append_assoc, append-nil, arith}
+use Rattle.std.proofs.Common.{◌+◌, ◌-◌, ◌++◌, List, sym, ap, ◌∙◌, append_assoc, append-nil, arith}
 use Rattle.event_text.specs.declared.event.Event.{Event}
 use Rattle.sched_gen.specs.Schedule.{round_events, state_after, rounds}
 use Rattle.sched_gen.proofs.Rounds.{rounds_step, rounds_end}

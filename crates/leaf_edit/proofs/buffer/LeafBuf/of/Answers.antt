@@ -1,4 +1,4 @@
-use Rattle.std.proofs.Common.{◌≡◌, List, length, sym, ap, ◌∙◌}
+use Rattle.std.proofs.Common.{List, length, sym, ap, ◌∙◌}
 use Rattle.leaf_view.specs.Leaf.{Entry, Leaf}
 use Rattle.leaf_edit.specs.Buffer.{leaf_in}
 use Rattle.leaf_edit.proofs.Spelled.{leaf_in_is}

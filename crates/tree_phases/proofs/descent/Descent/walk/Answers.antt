@@ -1,4 +1,4 @@
-use Rattle.std.proofs.Common.{◌≡◌, ◌<◌, ℕ, sym, ap, ◌∙◌, arith}
+use Rattle.std.proofs.Common.{◌≡◌, ℕ, sym, ap, ◌∙◌, arith}
 use Rattle.tree_phases.specs.Descent.{walk}
 use Rattle.tree_phases.proofs.Walking.{walk_more, walk_ended, walk_stopped, walk_stuck}
 use Rattle.tree_phases.proofs.descent.Descent.walk.Goals as goal

@@ -1,6 +1,4 @@
-use Rattle.std.proofs.Common.{◌≡◌, ◌+◌, ◌≤◌, ◌<◌, length, refl, sym, ap, ◌∙◌, map, arith}
-use Rattle.txn_buffer.specs.Noted.{noted_in}
-use Rattle.txn_buffer.specs.Kept.{noted_of}
+use Rattle.std.proofs.Common.{refl, ◌∙◌, arith}
 use Rattle.txn_buffer.proofs.NotedLemmas.{both_count, both_room}
 use Rattle.txn_buffer.proofs.buffer.TxnBuffer.note_both.Goals as goal
 

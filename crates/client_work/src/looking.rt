@@ -1,4 +1,5 @@
 ghost use Rattle.std.specs.Prelude.{◌≤◌};
+ghost use Rattle.db_base.specs.Limits.{last_indexed};
 ghost use Rattle.client_work.specs.Left.{behind_look};
 ghost use Rattle.client_work.specs.Session.{LooksBy, LooksOf, acting_of, in_hand};
 
@@ -25,7 +26,7 @@ pub(crate) fn begin_looking(
     attr: Attr,
     cache: &mut PageCache,
 ) -> (Left<(Home, Lookup)>, Shown, Begun)
-    requires { tree ≤ 8 }
+    requires { tree ≤ last_indexed }
     ensures { LooksOf home (record { tree = tree; attr = attr }) cache.old
         (behind_look result.0, cache.new) result.1 result.2 }
 {

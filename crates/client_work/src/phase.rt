@@ -22,14 +22,13 @@ pub enum Phase {
     Broken,
 }
 
-/// The rule that bars a look-up: a tree above 8 has no index, and of another one the phase decides.
+/// The rule that bars a look-up: of a tree that has an index the phase decides, and another tree bars it.
 fn index_bar(tree: TreeId, by: Option<Refusal>) -> Option<Refusal>
     ensures { result ≡ index_bar_of tree by }
 {
-    if tree.get() > 8 {
-        Some(Refusal::BadNumber)
-    } else {
-        by
+    match tree.index() {
+        Some(_) => by,
+        None => Some(Refusal::BadNumber),
     }
 }
 

@@ -1,4 +1,5 @@
 -- The machines, one folder each: what each knows of a cloud at each of its calls, what others leave of that, and what its calls rest on and leave.
+pub mod Refusals
 pub mod Walks
 pub mod Scans
 pub mod Looks

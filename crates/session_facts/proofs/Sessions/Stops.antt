@@ -47,6 +47,7 @@ use Rattle.txn_buffer.specs.Noted.{Noted}
 use Rattle.session_facts.specs.Machines.Walks.Knows.{MayStopWalk}
 use Rattle.session_facts.proofs.Machines.Walks.Outcome.{walk_stops}
 use Rattle.tree_walk.proofs.Demands.{memory_or}
+use Rattle.session_facts.proofs.Machines.Refusals.{TakesRefusals, done_may, renewed_may}
 
 -- a trouble is want of memory, or what comes of it where memory did not run out
 pub or_memory : (May : Trouble → Type 0) (k : Trouble) → May trouble.Memory → (k ≢ trouble.Memory → May k) → May k
@@ -56,31 +57,9 @@ or_memory May k memory other = on (memory_or k)
     on (inl e) = subst May (sym e) memory
     on (inr ne) = other ne
 
--- ---- answers that bring no value
-
-refused_may : (a : Reply) → MayRefuse (trouble_of a)
-refused_may (Got v) = tt
-refused_may (Sent id) = tt
-refused_may (Received ms) = tt
-refused_may (Listed pages) = tt
-refused_may Done = tt
-refused_may (Given l) = tt
-refused_may (Held until) = tt
-refused_may (Renewed e) = tt
-refused_may (Late e n) = tt
-refused_may Failed = tt
-refused_may Memory = tt
-
-refusal : {X : Type 0} (a b : Trouble) (g : Result X Trouble) → MayRefuse a → g ≡ Err a → g ≡ Err b → MayRefuse b
-refusal a b g may e f = let same : a ≡ b = cc in subst MayRefuse same may
-
-done_may : (a : Reply) (t : Trouble) → done_of a ≡ Err t → MayRefuse t
-done_may Done t e = absurd (cc)
-done_may a t e = refusal (trouble_of a) t (done_of a) (refused_may a) refl e
-
-renewed_may : (a : Reply) (t : Trouble) → renewed_of a ≡ Err t → MayRefuse t
-renewed_may (Renewed end) t e = absurd (cc)
-renewed_may a t e = refusal (trouble_of a) t (renewed_of a) (refused_may a) refl e
+-- a close or a renewal is answered so where its call brings no value
+call_refusals : TakesRefusals MayRefuse
+call_refusals = record { failed = tt; late = λ until now. tt; memory = tt }
 
 module _ (who : Caller) (before after : Seen) (s t : CloudState) (book : Book) (order : List Entry) (sessions : Sessions) (told : before.state ≡ Some s) (told_after : after.state ≡ Some t)
     (stand : SessionsStand book order s sessions) where
@@ -199,8 +178,8 @@ module _ (who : Caller) (before after : Seen) (s t : CloudState) (book : Book) (
   by_work buffer (Looking home l) new c shown k is steps shows = looking_may home l is buffer c new shown k shows
   by_work buffer (Folding home m) new c shown k is steps shows = folding_may home m is new k steps
   by_work buffer (Paging home p) new c shown k is steps shows = paging_may home p is new k steps
-  by_work buffer (Closing l) new c shown k is steps shows = done_may steps.0.answer k steps.0.took
-  by_work buffer (Renewing home) new c shown k is steps shows = renewed_may steps.1.answer k steps.1.took
+  by_work buffer (Closing l) new c shown k is steps shows = done_may call_refusals steps.0.answer k steps.0.took
+  by_work buffer (Renewing home) new c shown k is steps shows = renewed_may call_refusals steps.1.answer k steps.1.took
   by_work buffer (Settling m) new c shown k is steps shows = settling_may m is new k steps.1
   by_work buffer (Sweeping m) new c shown k is steps shows = sweeping_may m is new k steps
   by_work buffer Closed new c shown k is never shows = absurd never

@@ -37,6 +37,7 @@ use Rattle.session_facts.specs.Machines.Walks.Caches.{KnowsCache}
 use Rattle.session_facts.specs.Machines.Walks.Knows.{WalkLeads, MayStopWalk}
 use Rattle.session_facts.proofs.Machines.Walks.Beside.{LeavesKnown, turn_leaves}
 use Rattle.session_facts.proofs.Machines.Walks.Outcome.{walk_begins, call_answers, walk_goes}
+use Rattle.session_facts.proofs.Machines.Refusals.{TakesRefusals, refused_may}
 
 -- ---- what may be answered
 
@@ -208,26 +209,16 @@ module _ (May : Trouble → Type 0) (txn : May (trouble.Exhausted counter.Txn)) 
 
 -- ---- answers that bring no value
 
-refused_may : (a : Answer) → MayStopCommit (trouble_of a)
-refused_may (Got v) = tt
-refused_may (Sent id) = tt
-refused_may (Received ms) = tt
-refused_may (Listed pages) = tt
-refused_may Done = tt
-refused_may (Given l) = tt
-refused_may (Held until) = tt
-refused_may (Renewed e) = tt
-refused_may (Late e n) = tt
-refused_may Failed = tt
-refused_may Memory = tt
+commit_refusals : TakesRefusals MayStopCommit
+commit_refusals = record { failed = tt; late = λ until now. tt; memory = tt }
 
 sent_fair : (a : Answer) → IsFair MayStopCommit (sent_of a)
 sent_fair (Sent id) = tt
-sent_fair a = refused_may a
+sent_fair a = refused_may commit_refusals a
 
 done_fair : (a : Answer) → IsFair MayStopCommit (done_of a)
 done_fair Done = tt
-done_fair a = refused_may a
+done_fair a = refused_may commit_refusals a
 
 doubt_may : (t : Trouble) → MayDoubt MayStopCommit t
 doubt_may (trouble.Late end now) = tt

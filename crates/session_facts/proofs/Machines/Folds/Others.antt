@@ -22,7 +22,7 @@ use Rattle.session_facts.specs.Machines.Trees.Leaves.{KnowsRest, IsGetting, IsCo
 use Rattle.cloud_facts.specs.Calls.Links.{SameLinks}
 use Rattle.session_facts.specs.Machines.Trees.Placings.{AreReserved, numbered}
 use Rattle.cloud_facts.specs.Calls.Others.{Others}
-use Rattle.session_facts.proofs.Machines.Trees.Others.{root_stays, nodes_stay, links_stay, keeps_nodes, chart_others, way_stays}
+use Rattle.session_facts.proofs.Machines.Trees.Others.{root_stays, nodes_stay, links_stay, keeps_nodes, chart_others, way_stays, reserved_others}
 use Rattle.session_facts.proofs.Machines.Trees.Placings.{reserved_stays}
 
 -- ---- the run
@@ -45,39 +45,6 @@ at_leaf_others mine st su now later lease f after held is o k = record {
   way = way_stays (st.book.chain f.chart.tree) (su.book.chain f.chart.tree) 0 f.page f.low f.chart.key f.visited (λ l a. o.passes.grows.links f.chart.tree l a) k.way;
   lock_is = k.lock_is;
 }
-
--- ---- numbers that are reserved
-
--- pages that are absent are guarded by the tree's lease, and those that landed and are in no chain stay as they are
-pub reserved_others : (mine : List Claim) (st su : Store) (later : ℕ) (lease : Claim) (tree first : ℕ) (middle behind : List LeafPart) → IsIn mine lease → lease.lock ≡ lock.Tree tree
-    → Lasts later lease → Others mine later st su
-    → AreReserved leaf_node (st.book.chain tree) (st.tally.nodes tree) (st.tally.gone tree) (top_of (st.tally.roots tree)).next (numbered first middle behind)
-    → AreReserved leaf_node (su.book.chain tree) (su.tally.nodes tree) (su.tally.gone tree) (top_of (su.tally.roots tree)).next (numbered first middle behind)
-reserved_others mine st su later lease tree first middle behind held is lasts o r =
-    reserved_stays leaf_node (st.book.chain tree) (su.book.chain tree) (st.tally.nodes tree) (su.tally.nodes tree) (st.tally.gone tree) (su.tally.gone tree) (top_of (st.tally.roots tree)).next
-    (top_of (su.tally.roots tree)).next first middle behind unlinked pages (o.gone lease tree held is lasts) rises r
-  where
-    links : SameLinks st su tree
-    links = o.links lease tree held is lasts
-
-    unlinked : (page : ℕ) → IsUnlinked (st.book.chain tree) page → IsUnlinked (su.book.chain tree) page
-    unlinked page none level link linked = none level link (subst (λ (ls : List Link). IsIn ls link) (links level) linked)
-
-    pages : (page : ℕ) → first ≤ page → page < first + (length middle + length behind) → su.tally.nodes tree page ≡ st.tally.nodes tree page
-    pages page low high = on (st.tally.nodes tree page) refl
-      where
-        none : IsUnlinked (st.book.chain tree) page
-        none = r.unlinked page low high
-
-        on : (ns : List Node) → st.tally.nodes tree page ≡ ns → su.tally.nodes tree page ≡ st.tally.nodes tree page
-        on [] e = o.page lease tree page held is lasts (inl (e, λ first. absurd (let above = r.above page low high in omega (arith, above, first))))
-        on (n ∷ ns) e = o.passes.grows.unlinked tree page (λ empty. never (sym empty ∙ e)) (λ level link. unlinked page none level link)
-          where
-            never : [] ≡ n ∷ ns → ⊥
-            never q = cc
-
-    rises : (top_of (st.tally.roots tree)).next ≤ (top_of (su.tally.roots tree)).next
-    rises = let same = ap (λ rs. (top_of rs).next) (o.roots lease tree held is lasts) in omega (arith, same)
 
 -- ---- the puts of a leaf
 
@@ -115,7 +82,7 @@ pieces_others mine st su now later lease f run after held is own own_is clients 
         → Reserves su (Lasts later lease) f.chart.tree (tree_held f.chart.root) (numbered k.first k.placing.middle k.placing.behind) p
     reserves (Some bytes) r = r
     reserves None r = λ lasts.
-        reserved_others mine st su later lease f.chart.tree k.first k.placing.middle k.placing.behind held is lasts o (r (omega (arith, lasts, after)))
+        reserved_others leaf_node mine st su later lease f.chart.tree k.first k.placing.middle k.placing.behind held is lasts o (r (omega (arith, lasts, after)))
 
     rest : (x : PuItem) → IsIn run x → IsDone st f.chart.tree x ⊎ (holds k.leaf (key_of x.rec.change) ≡ true)
         → IsDone su f.chart.tree x ⊎ (holds k.leaf (key_of x.rec.change) ≡ true)

@@ -17,7 +17,7 @@ use Rattle.session_facts.specs.Machines.Trees.Charts.{KnowsRoot}
 use Rattle.session_facts.specs.Machines.Folds.Knows.{Reserves, PutsPieces}
 use Rattle.session_facts.specs.Machines.Trees.Placings.{AreReserved, IsReservation, reserving, numbered}
 use Rattle.session_facts.proofs.Machines.TreeCheckpoints.EntryCounts.{pieces_more}
-use Rattle.session_facts.proofs.Machines.TreeCheckpoints.RunLengths.{applied_records}
+use Rattle.tree_ckpt.proofs.RunLengths.{applied_records}
 use Rattle.session_facts.proofs.Machines.Folds.Cuts.{pieces_count}
 use Rattle.session_facts.proofs.Machines.Trees.Reserves.{reservation_landing, reservation_held, reserved_then, root_known}
 

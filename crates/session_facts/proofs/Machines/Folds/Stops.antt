@@ -17,7 +17,8 @@ use Rattle.split_plan.specs.declared.put_list.PagePut.{PagePut}
 use Rattle.split_plan.specs.Plan.{put_of, on_pages, leaf_bytes}
 use Rattle.cloud_facts.specs.Book.Telling.{newest_leaf}
 use Rattle.session_facts.specs.Machines.TreeCheckpoints.Knows.{MayStopTree}
-use Rattle.session_facts.proofs.Machines.TreeCheckpoints.Stops.{StopsWell, IsFair, spent_may, got_may, done_may, reservation_fair}
+use Rattle.session_facts.proofs.Machines.TreeCheckpoints.Stops.{StopsWell, IsFair, spent_may, tree_refusals, reservation_fair}
+use Rattle.session_facts.proofs.Machines.Refusals.{got_may, done_may}
 use Rattle.session_facts.specs.Machines.Trees.Leaves.{IsReading, IsPutting}
 use Rattle.session_facts.proofs.Machines.Folds.Leaves.{leaf_low, absent_is, whole_is, held_is, leaf_right, right_fresh}
 use Rattle.tree_ckpt.specs.Causes.{GoesRight}
@@ -84,7 +85,7 @@ module _ (book : Book) (order : List Entry) (s : CloudState) (stands : StandsUnd
   reads_may seen refused c = tt
 
   read_may : {a : Answer} {next : FoldingStep} → ((v : Option (List ℕ)) → got_of a ≡ Ok v → v ≡ newest s (object.Page tree f.page)) → Works f a next → StopsWell next
-  read_may {a = a} seen (step.gets nothing r) = reads_may seen (got_may a) r
+  read_may {a = a} seen (step.gets nothing r) = reads_may seen (got_may tree_refusals a) r
   read_may seen (step.puts some l) = let none : has_nothing f.placing ≡ true = ap has_nothing k.placing_is in absurd (cc (some, none))
 
   pub leaf_may : (a : Answer) → ((v : Option (List ℕ)) → got_of a ≡ Ok v → v ≡ newest s (object.Page tree f.page)) → StopsWell (folding_next f a)
@@ -98,7 +99,7 @@ lands_may refused c = tt
 
 works_may : {f : Folding} {a : Answer} {next : FoldingStep} → 0 < length f.placing.puts → Works f a next → StopsWell next
 works_may {f = f} some (step.gets nothing r) = let full = page_left f.placing some in absurd (cc (nothing, full))
-works_may {a = a} some (step.puts full l) = lands_may (done_may a) l
+works_may {a = a} some (step.puts full l) = lands_may (done_may tree_refusals a) l
 
 pub put_may : (st : Store) (now : ℕ) (lease : Claim) (f : Folding) (ids : List ℕ) → IsPutting st now lease f ids → (reply : Answer) → StopsWell (folding_next f reply)
 put_may st now lease f ids k reply = works_may some (works f reply)

@@ -20,7 +20,8 @@ use Rattle.cloud_facts.proofs.Numbers.Ways.{is_way, way_epoch, way_txn}
 use Rattle.session_facts.specs.Machines.Openings.Knows.{HasFormer, HasLease, IsCommitted, IsWanted, IsMessageThat, HasSifted, opening_with, MayStopOpening, EndsWell, HasReadNothing, KnowsGathering, KnowsSifted, KnowsLost, KnowsSending, KnowsPut, KnowsOpeningAt, KnowsEnd, KnowsNext}
 use Rattle.session_facts.proofs.Machines.Openings.Gathered.{KnowsLosing, rest_all, received_known, whole_known, sent_known, all_known}
 use Rattle.session_facts.proofs.Machines.Openings.Messages.{items_sent, that_ids}
-use Rattle.session_facts.proofs.Machines.Openings.Refusals.{ReadsHead, AllRead, got_may, sent_may, received_may, done_may}
+use Rattle.session_facts.proofs.Machines.Openings.Refusals.{ReadsHead, AllRead, opening_refusals}
+use Rattle.session_facts.proofs.Machines.Refusals.{got_may, sent_may, received_may, done_may}
 use Rattle.session_facts.proofs.Machines.Openings.Sends.{there_at}
 use Rattle.recover_run.specs.declared.items.AtomicItem.{AtomicItem}
 use Rattle.recover_run.specs.declared.stage.RecoverAnswer.{RecoverAnswer}
@@ -166,12 +167,12 @@ module _ (session : ℕ) (parts : Parts) (u : Store) (now : ℕ) (part : Part) w
 
   -- no head and no message is damaged
   fails_known : {r q : Recovery} {a : Answer} {t : Trouble} → KnowsBehind r.stage r a → Fails r a q t → HasLease q.client q.former q.lease × MayStopOpening t
-  fails_known k (step.no_head r a t e) = (k.0, got_may a t e)
-  fails_known k (step.no_messages r a t e) = (k.0.read.held, received_may a t e)
-  fails_known k (step.not_deleted r a t e) = (k.0.read.held, done_may a t e)
-  fails_known k (step.not_sent r a t e) = (k.0.read.held, sent_may a t e)
-  fails_known k (step.not_put r a t e) = (k.0, done_may a t e)
-  fails_known k (step.not_swept r a t e) = (k.0.held, received_may a t e)
+  fails_known k (step.no_head r a t e) = (k.0, got_may opening_refusals a t e)
+  fails_known k (step.no_messages r a t e) = (k.0.read.held, received_may opening_refusals a t e)
+  fails_known k (step.not_deleted r a t e) = (k.0.read.held, done_may opening_refusals a t e)
+  fails_known k (step.not_sent r a t e) = (k.0.read.held, sent_may opening_refusals a t e)
+  fails_known k (step.not_put r a t e) = (k.0, done_may opening_refusals a t e)
+  fails_known k (step.not_swept r a t e) = (k.0.held, received_may opening_refusals a t e)
   fails_known k (step.bad_head r bytes none) = let reads = (k.4 (Some bytes) refl).2.1 in absurd (cc (none, reads))
   fails_known k (step.last_epoch r bytes h e last) = (k.0, tt)
   fails_known k (step.bad_message r ms m e) = absurd ((k.3 ms refl).1 m e)

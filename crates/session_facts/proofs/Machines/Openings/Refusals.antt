@@ -18,45 +18,11 @@ use Rattle.session_facts.specs.Machines.Openings.Knows.{MayStopOpening}
 use Rattle.recover_run.specs.declared.items.AtomicItem.{AtomicItem}
 use Rattle.recover_run.specs.Items.{items_of, with_first}
 use Rattle.cloud_facts.specs.Book.Telling.{last_or, head_in}
+use Rattle.session_facts.proofs.Machines.Refusals.{TakesRefusals}
 
--- ---- answers that bring no value
-
-refused_may : (a : Answer) → MayStopOpening (trouble_of a)
-refused_may (Got v) = tt
-refused_may (Sent id) = tt
-refused_may (Received ms) = tt
-refused_may (Listed pages) = tt
-refused_may Done = tt
-refused_may (Given l) = tt
-refused_may (Held until) = tt
-refused_may (Renewed e) = tt
-refused_may (Late e n) = tt
-refused_may Failed = tt
-refused_may Memory = tt
-
-refusal : {X : Type 0} (a b : Trouble) (g : Result X Trouble) → MayStopOpening a → g ≡ Err a → g ≡ Err b → MayStopOpening b
-refusal a b g may e f = let same : a ≡ b = cc in subst MayStopOpening same may
-
-pub got_may : (a : Answer) (t : Trouble) → got_of a ≡ Err t → MayStopOpening t
-got_may (Got v) t e = absurd (cc)
-got_may a t e = refusal (trouble_of a) t (got_of a) (refused_may a) refl e
-
-pub sent_may : (a : Answer) (t : Trouble) → sent_of a ≡ Err t → MayStopOpening t
-sent_may (Sent id) t e = absurd (cc)
-sent_may a t e = refusal (trouble_of a) t (sent_of a) (refused_may a) refl e
-
-pub received_may : (a : Answer) (t : Trouble) → received_of a ≡ Err t → MayStopOpening t
-received_may (Received ms) t e = absurd (cc)
-received_may a t e = refusal (trouble_of a) t (received_of a) (refused_may a) refl e
-
-pub done_may : (a : Answer) (t : Trouble) → done_of a ≡ Err t → MayStopOpening t
-done_may Done t e = absurd (cc)
-done_may a t e = refusal (trouble_of a) t (done_of a) (refused_may a) refl e
-
-pub given_may : (k : Lock) (a : Answer) (t : Trouble) → given_of k a ≡ Err t → MayStopOpening t
-given_may k (Given l) t e = absurd (cc)
-given_may k (Held until) t e = refusal (trouble.Busy k until) t (given_of k (Held until)) tt refl e
-given_may k a t e = refusal (trouble_of a) t (given_of k a) (refused_may a) refl e
+-- an answer that brings no value stops it
+pub opening_refusals : TakesRefusals MayStopOpening
+opening_refusals = record { failed = tt; late = λ until now. tt; memory = tt }
 
 -- ---- what is read
 

@@ -4,7 +4,8 @@ use Rattle.cloud_facts.specs.Words.{Trouble, Answer, Goes, Ends, Stops, Store}
 use Rattle.db_base.specs.declared.names.Lock.TheVariants as lock
 use Rattle.cloud_facts.specs.Homes.Homes.{Part}
 use Rattle.session_facts.specs.Machines.Openings.Knows.{MayStopOpening, MayEnd, KnowsOpeningAt, KnowsOpening}
-use Rattle.session_facts.proofs.Machines.Openings.Refusals.{given_may}
+use Rattle.session_facts.proofs.Machines.Openings.Refusals.{opening_refusals}
+use Rattle.session_facts.proofs.Machines.Refusals.{given_may}
 use Rattle.recover_run.proofs.Turns.{Turns, turns_to}
 use Rattle.recover_run.proofs.Turns as turn
 use Rattle.recover_run.specs.Recovery.{Recovery, Step, recovery_next}
@@ -16,7 +17,7 @@ MayNext (Ends r a) = Unit {0}
 MayNext (Stops r t) = MayStopOpening t
 
 may : (st : Store) (now : ℕ) (part : Part) {r : Recovery} {a : Answer} {next : Step} → Turns r a next → KnowsOpeningAt r.stage st now r part → MayNext next
-may st now part (turn.refused r a t e) k = given_may (lock.Client r.client) a t e
+may st now part (turn.refused r a t e) k = given_may opening_refusals (λ k until. tt) (lock.Client r.client) a t e
 may st now part (turn.stopped r a t e) k = subst MayEnd e k.2
 may st now part (turn.astray r a e) k = absurd (subst MayEnd e k.2)
 may st now part (turn.nothing r a) k = absurd k

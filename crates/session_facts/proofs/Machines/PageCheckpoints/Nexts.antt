@@ -43,41 +43,11 @@ use Rattle.session_facts.specs.Machines.PageCheckpoints.Rights.{IsLanded, IsNewe
 use Rattle.session_facts.proofs.Machines.PageCheckpoints.Chained.{has_run, home_fences}
 use Rattle.session_facts.proofs.Machines.PageCheckpoints.Fences.{HasFences, landed_fences, newest_landed, link_leads, another, upto_next, upto_more, not_visited}
 use Rattle.session_facts.proofs.Machines.PageCheckpoints.Reads.{IsNamed}
+use Rattle.session_facts.proofs.Machines.Refusals.{TakesRefusals, got_may, received_may, done_may, given_may}
 
--- ---- an answer without its value is no fault of the tree
-
-refused_may : (page : ℕ) (a : Answer) → MayStopPage page (trouble_of a)
-refused_may page (Got v) = tt
-refused_may page (Sent id) = tt
-refused_may page (Received ms) = tt
-refused_may page (Listed pages) = tt
-refused_may page Done = tt
-refused_may page (Given l) = tt
-refused_may page (Held until) = tt
-refused_may page (Renewed e) = tt
-refused_may page (Late e n) = tt
-refused_may page Failed = tt
-refused_may page Memory = tt
-
-refusal : {X : Type 0} (page : ℕ) (a b : Trouble) (g : Result X Trouble) → MayStopPage page a → g ≡ Err a → g ≡ Err b → MayStopPage page b
-refusal page a b g may e f = let same : a ≡ b = cc in subst (MayStopPage page) same may
-
-pub got_may : (page : ℕ) (a : Answer) (t : Trouble) → got_of a ≡ Err t → MayStopPage page t
-got_may page (Got v) t e = absurd (cc)
-got_may page a t e = refusal page (trouble_of a) t (got_of a) (refused_may page a) refl e
-
-pub received_may : (page : ℕ) (a : Answer) (t : Trouble) → received_of a ≡ Err t → MayStopPage page t
-received_may page (Received ms) t e = absurd (cc)
-received_may page a t e = refusal page (trouble_of a) t (received_of a) (refused_may page a) refl e
-
-pub done_may : (page : ℕ) (a : Answer) (t : Trouble) → done_of a ≡ Err t → MayStopPage page t
-done_may page Done t e = absurd (cc)
-done_may page a t e = refusal page (trouble_of a) t (done_of a) (refused_may page a) refl e
-
-pub given_may : (page : ℕ) (k : Lock) (a : Answer) (t : Trouble) → given_of k a ≡ Err t → MayStopPage page t
-given_may page k (Given l) t e = absurd (cc)
-given_may page k (Held until) t e = refusal page (trouble.Busy k until) t (given_of k (Held until)) tt refl e
-given_may page k a t e = refusal page (trouble_of a) t (given_of k a) (refused_may page a) refl e
+-- an answer without its value stops it, and is no fault of the tree
+pub page_refusals : (page : ℕ) → TakesRefusals (MayStopPage page)
+page_refusals page = record { failed = tt; late = λ until now. tt; memory = tt }
 
 -- ---- local work
 
@@ -302,12 +272,12 @@ module _ (u : Store) (now : ℕ) where
 
   -- it fails for no fault of the tree, and gives back what it has
   fails : {p q : Paging} {a : Answer} {t : Trouble} → Fails p a q t → IsOfPage p → Shows p.stage u now p a → HasLeases q × MayStopPage q.page t
-  fails (step.no_home p first second a t e) of_page (has, fresh, named, covers) = (inl has, got_may p.page a t e)
-  fails (step.no_messages p first second a t e) of_page (k, charted, numbers, was) = (inl k.has, received_may p.page a t e)
-  fails (step.no_lease p first second a t e) of_page (has, comes, is) = (inl has, given_may p.page (lock.Page p.tree p.at.page) a t e)
-  fails (step.no_right p first second a t e) of_page (has, comes, charted, found, none) = (inr (p.at.page, has), got_may p.page a t e)
-  fails (step.right_not_put p first second a t e) of_page (has, k) = (inr (p.at.page, has), done_may p.page a t e)
-  fails (step.home_not_put p first second a t e) of_page (has, k) = (inl has, done_may p.page a t e)
+  fails (step.no_home p first second a t e) of_page (has, fresh, named, covers) = (inl has, got_may (page_refusals p.page) a t e)
+  fails (step.no_messages p first second a t e) of_page (k, charted, numbers, was) = (inl k.has, received_may (page_refusals p.page) a t e)
+  fails (step.no_lease p first second a t e) of_page (has, comes, is) = (inl has, given_may (page_refusals p.page) (λ k until. tt) (lock.Page p.tree p.at.page) a t e)
+  fails (step.no_right p first second a t e) of_page (has, comes, charted, found, none) = (inr (p.at.page, has), got_may (page_refusals p.page) a t e)
+  fails (step.right_not_put p first second a t e) of_page (has, k) = (inr (p.at.page, has), done_may (page_refusals p.page) a t e)
+  fails (step.home_not_put p first second a t e) of_page (has, k) = (inl has, done_may (page_refusals p.page) a t e)
   fails (step.bad_home p first second got t reads) of_page (has, fresh, named, covers) = (inl has, named got (Err t) refl reads)
   fails (step.bad_message p first second ms t read) of_page (k, charted, numbers, was) =
       absurd (none_bad u p.tree p.page (own_queue p) numbers ms (was ms refl) read.cursor (items_of ms) t refl read.takes)
@@ -348,7 +318,7 @@ module _ (u : Store) (now : ℕ) where
 
   pub stands : {p : Paging} {a : Answer} {next : Step} → Comes p a next → IsOfPage p → Shows p.stage u now p a → StandsWherever u now p.page next
   stands (step.takes_home p first second l) of_page (fresh, is) = (of_page, (record { lease = l; is = refl; lock_is = is l refl }, fresh))
-  stands (step.refused p first second a t e) of_page k = given_may p.page (lock.Page p.tree p.page) a t e
+  stands (step.refused p first second a t e) of_page k = given_may (page_refusals p.page) (λ k until. tt) (lock.Page p.tree p.page) a t e
   stands (step.stops q t f) of_page k =
       let kept = fails_page f of_page in
       let gives = fails f of_page k in

@@ -20,7 +20,7 @@ use Rattle.cloud_facts.specs.Calls.Links.{SameLinks}
 use Rattle.session_facts.specs.Machines.Trees.Placings.{AreReserved, numbered}
 use Rattle.session_facts.specs.Machines.Risings.Knows.{AppliesRun, ReservesNodes, PutsNode, IsRaised, PutsCut, PutsRoot, whole, cut, PutsOf, KnowsRising}
 use Rattle.cloud_facts.specs.Calls.Others.{Others}
-use Rattle.session_facts.proofs.Machines.Trees.Others.{root_stays, KeepsNodes, nodes_stay, links_stay, keeps_nodes}
+use Rattle.session_facts.proofs.Machines.Trees.Others.{root_stays, KeepsNodes, nodes_stay, links_stay, keeps_nodes, reserved_others}
 use Rattle.session_facts.proofs.Machines.Folds.Others.{done_stays}
 use Rattle.session_facts.proofs.Machines.Trees.Placings.{reserved_stays}
 use Rattle.session_facts.proofs.Machines.Walks.Caches.{in_grown}
@@ -52,39 +52,6 @@ node_stays st su now later lease tree kept after grows same a = record {
   landed = in_grown (st.tally.nodes tree kept.page) (su.tally.nodes tree kept.page) (Branch a.inner) (grows.nodes tree kept.page) a.landed;
   newest = λ lasts. ap (λ (ns : List Node). last_or (Leafy empty_leaf) ns) (same lasts) ∙ a.newest (omega (arith, lasts, after));
 }
-
--- ---- numbers that are reserved
-
--- pages that are absent are guarded by the tree's lease, and those that landed and are in no chain stay as they are
-pub free_others : {A X : Type 0} (node : Part A X → Node) (mine : List Claim) (st su : Store) (later : ℕ) (lease : Claim) (tree first : ℕ) (middle behind : List (Part A X)) → IsIn mine lease
-    → lease.lock ≡ lock.Tree tree → Lasts later lease → Others mine later st su
-    → AreReserved node (st.book.chain tree) (st.tally.nodes tree) (st.tally.gone tree) (top_of (st.tally.roots tree)).next (numbered first middle behind)
-    → AreReserved node (su.book.chain tree) (su.tally.nodes tree) (su.tally.gone tree) (top_of (su.tally.roots tree)).next (numbered first middle behind)
-free_others {A} {X} node mine st su later lease tree first middle behind held is lasts o r =
-    reserved_stays node (st.book.chain tree) (su.book.chain tree) (st.tally.nodes tree) (su.tally.nodes tree) (st.tally.gone tree) (su.tally.gone tree) (top_of (st.tally.roots tree)).next (top_of (su.tally.roots tree)).next
-    first middle behind unlinked pages (o.gone lease tree held is lasts) rises r
-  where
-    links : SameLinks st su tree
-    links = o.links lease tree held is lasts
-
-    unlinked : (page : ℕ) → IsUnlinked (st.book.chain tree) page → IsUnlinked (su.book.chain tree) page
-    unlinked page none level link linked = none level link (subst (λ (ls : List Link). IsIn ls link) (links level) linked)
-
-    pages : (page : ℕ) → first ≤ page → page < first + (length middle + length behind) → su.tally.nodes tree page ≡ st.tally.nodes tree page
-    pages page low high = on (st.tally.nodes tree page) refl
-      where
-        none : IsUnlinked (st.book.chain tree) page
-        none = r.unlinked page low high
-
-        on : (ns : List Node) → st.tally.nodes tree page ≡ ns → su.tally.nodes tree page ≡ st.tally.nodes tree page
-        on [] e = o.page lease tree page held is lasts (inl (e, λ one. absurd (let above = r.above page low high in omega (arith, above, one))))
-        on (n ∷ ns) e = o.passes.grows.unlinked tree page (λ empty. never (sym empty ∙ e)) (λ level link. unlinked page none level link)
-          where
-            never : [] ≡ n ∷ ns → ⊥
-            never q = cc
-
-    rises : (top_of (st.tally.roots tree)).next ≤ (top_of (su.tally.roots tree)).next
-    rises = let same = ap (λ rs. (top_of rs).next) (o.roots lease tree held is lasts) in omega (arith, same)
 
 -- ---- all of it
 
@@ -175,4 +142,4 @@ pub rising_others : (mine : List Claim) (st su : Store) (now later : ℕ) (lease
     → Others mine later st su → KnowsRising st now lease r ids → KnowsRising su later lease r ids
 rising_others mine st su now later lease r ids after held is o k =
     rising_stays st su now later lease r ids after o.passes.grows (o.roots lease r.chart.tree held is) (keeps_nodes mine st su later r.chart.tree lease held is o)
-    (λ first middle behind lasts f. free_others inner_node mine st su later lease r.chart.tree first middle behind held is lasts o f) k
+    (λ first middle behind lasts f. reserved_others inner_node mine st su later lease r.chart.tree first middle behind held is lasts o f) k

@@ -4,7 +4,8 @@ use Rattle.std.specs.Prelude.{nat_lt}
 use Rattle.cloud_facts.specs.Words.{Trouble, Inner, Tree, Answer, Claim, Next, done_of, Store}
 use Rattle.split_plan.specs.Sizes.{count_of}
 use Rattle.session_facts.specs.Machines.TreeCheckpoints.Knows.{MayStopTree}
-use Rattle.session_facts.proofs.Machines.TreeCheckpoints.Stops.{StopsWell, IsFair, spent_may, done_may, next_fair, reservation_fair}
+use Rattle.session_facts.proofs.Machines.TreeCheckpoints.Stops.{StopsWell, IsFair, spent_may, tree_refusals, next_fair, reservation_fair}
+use Rattle.session_facts.proofs.Machines.Refusals.{done_may}
 use Rattle.session_facts.specs.Machines.Trees.Charts.{KnowsNode, KnowsNodes}
 use Rattle.session_facts.specs.Machines.Risings.Knows.{PutsOf, KnowsRising}
 use Rattle.session_facts.proofs.Machines.Risings.Grounds.{get_dropped}
@@ -103,4 +104,4 @@ lands_may st now lease r ids k refused (step.goes_on x some nothing none next) =
 lands_may st now lease r ids k refused c = tt
 
 pub rising_may : (st : Store) (now : ℕ) (lease : Claim) (r : Rising) (ids : List ℕ) → KnowsRising st now lease r ids → (reply : Answer) → StopsWell (up.rising_next r reply)
-rising_may st now lease r ids k reply = lands_may st now lease r ids k (done_may reply) (lands r (done_of reply))
+rising_may st now lease r ids k reply = lands_may st now lease r ids k (done_may tree_refusals reply) (lands r (done_of reply))

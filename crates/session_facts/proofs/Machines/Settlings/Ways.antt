@@ -19,7 +19,8 @@ use Rattle.session_facts.specs.Machines.PageCheckpoints.Knows.{HasPage, HasRight
 use Rattle.session_facts.specs.Machines.PageCheckpoints.Rights.{IsLanded}
 use Rattle.session_facts.proofs.Machines.PageCheckpoints.Fences.{newest_landed}
 use Rattle.session_facts.proofs.Machines.PageCheckpoints.Reads.{IsNamed, IsLinkedLeaf, named_is, named_leaf, linked_is}
-use Rattle.session_facts.proofs.Machines.PageCheckpoints.Nexts.{got_may, received_may, done_may, given_may}
+use Rattle.session_facts.proofs.Machines.PageCheckpoints.Nexts.{page_refusals}
+use Rattle.session_facts.proofs.Machines.Refusals.{got_may, received_may, done_may, given_may}
 use Rattle.session_facts.proofs.Machines.Settlings.PageSteps.{HasRead, Lacks, step_has}
 use Rattle.session_facts.proofs.Machines.Settlings.PageSteps as lacks
 use Rattle.session_facts.proofs.Machines.Settlings.Rights.{reads_nothing, first_comes, right_comes, right_unvisited}
@@ -108,10 +109,10 @@ module _ (who : Caller) (s t : CloudState) (book : Book) (order : List Entry) (p
   right_at e = known_at GettingRight e
 
   no_leaf : (x : Trouble) → Lacks p reply x → IsOfNoPage x
-  no_leaf x (lacks.no_bytes e) = fair_of x (λ page. got_may page reply x e)
-  no_leaf x (lacks.no_messages e) = fair_of x (λ page. received_may page reply x e)
-  no_leaf x (lacks.no_lease taken e) = fair_of x (λ page. given_may page taken reply x e)
-  no_leaf x (lacks.not_done e) = fair_of x (λ page. done_may page reply x e)
+  no_leaf x (lacks.no_bytes e) = fair_of x (λ page. got_may (page_refusals page) reply x e)
+  no_leaf x (lacks.no_messages e) = fair_of x (λ page. received_may (page_refusals page) reply x e)
+  no_leaf x (lacks.no_lease taken e) = fair_of x (λ page. given_may (page_refusals page) (λ k until. tt) taken reply x e)
+  no_leaf x (lacks.not_done e) = fair_of x (λ page. done_may (page_refusals page) reply x e)
   no_leaf x (lacks.no_home got e is holds) = named e (home_at e) got (Err x) (ap got_of is) holds
   no_leaf x (lacks.no_right got e is holds) = right_named e (right_at e).0 (right_at e).1 got (Err x) (ap got_of is) holds x refl
   no_leaf x (lacks.other fair) = fair

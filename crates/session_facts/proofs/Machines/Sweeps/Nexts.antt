@@ -14,44 +14,11 @@ use Rattle.orphan_sweep.specs.declared.stage.Stage.TheVariants.{TakingTree, Rele
 use Rattle.orphan_sweep.specs.Sweeping.{Sweeping, Step, sweep_ask}
 use Rattle.session_facts.specs.Machines.Sweeps.Knows.{IsClearing, Under, MayStopSweep, KnowsSweep, KnowsNext}
 use Rattle.session_facts.proofs.Machines.Sweeps.Onward.{GoesOnTo}
+use Rattle.session_facts.proofs.Machines.Refusals.{TakesRefusals, given_may}
 
--- ---- answers that bring no value
-
-refused_may : (a : Answer) → MayStopSweep (trouble_of a)
-refused_may (Got v) = tt
-refused_may (Sent id) = tt
-refused_may (Received ms) = tt
-refused_may (Listed pages) = tt
-refused_may Done = tt
-refused_may (Given l) = tt
-refused_may (Held until) = tt
-refused_may (Renewed e) = tt
-refused_may (Late e n) = tt
-refused_may Failed = tt
-refused_may Memory = tt
-
-refusal : {X : Type 0} (a b : Trouble) (g : Result X Trouble) → MayStopSweep a → g ≡ Err a → g ≡ Err b → MayStopSweep b
-refusal {X} a b g may e f =
-    let both : Err a ≡ Err b = sym e ∙ f in
-    let same : a ≡ b = cc (both) in
-    subst MayStopSweep same may
-
-pub got_may : (a : Answer) (t : Trouble) → got_of a ≡ Err t → MayStopSweep t
-got_may (Got v) t e = absurd (cc (e))
-got_may a t e = refusal (trouble_of a) t (got_of a) (refused_may a) refl e
-
-pub listed_may : (a : Answer) (t : Trouble) → listed_of a ≡ Err t → MayStopSweep t
-listed_may (Listed pages) t e = absurd (cc (e))
-listed_may a t e = refusal (trouble_of a) t (listed_of a) (refused_may a) refl e
-
-pub done_may : (a : Answer) (t : Trouble) → done_of a ≡ Err t → MayStopSweep t
-done_may Done t e = absurd (cc (e))
-done_may a t e = refusal (trouble_of a) t (done_of a) (refused_may a) refl e
-
-pub given_may : (k : Lock) (a : Answer) (t : Trouble) → given_of k a ≡ Err t → MayStopSweep t
-given_may k (Given l) t e = absurd (cc (e))
-given_may k (Held until) t e = refusal (trouble.Busy k until) t (given_of k (Held until)) tt refl e
-given_may k a t e = refusal (trouble_of a) t (given_of k a) (refused_may a) refl e
+-- an answer that brings no value stops it
+pub sweep_refusals : TakesRefusals MayStopSweep
+sweep_refusals = record { failed = tt; late = λ until now. tt; memory = tt }
 
 -- ---- where it leads
 
@@ -110,7 +77,7 @@ module _ (who : Caller) (s t : CloudState) (st u : Store) (part : Part) where
     at = ((ap (λ (x : Claim). x.lock) call.row.1, λ lasts. tt), k.at.1);
   }
   leads k call fails goes clears (step.takes m (Some other) l) = absurd k.at.0
-  leads k call fails goes clears (step.refused m held a t e) = (k.away, given_may (lock.Tree m.tree) a t e)
+  leads k call fails goes clears (step.refused m held a t e) = (k.away, given_may sweep_refusals (λ k until. tt) (lock.Tree m.tree) a t e)
   leads {m = m} k call fails goes clears (step.stops why f) = record {
     tree = k.tree;
     away = k.away;

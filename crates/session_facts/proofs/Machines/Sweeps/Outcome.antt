@@ -26,7 +26,8 @@ use Rattle.orphan_sweep.specs.Sweeping.{Sweeping, next_orphan, remove_next, ask_
 use Rattle.session_facts.specs.Machines.Sweeps.Knows.{IsClearing, MayStopSweep, KnowsAt, KnowsSweep, KnowsNext, KnowsAfter, leases_of_sweep}
 use Rattle.session_facts.proofs.Machines.Sweeps.Clears.{listing_clears, removal_clears}
 use Rattle.session_facts.proofs.Machines.Sweeps.Onward.{GoesOnTo, begins_at, page_goes}
-use Rattle.session_facts.proofs.Machines.Sweeps.Nexts.{Stands, got_may, listed_may, done_may, leads}
+use Rattle.session_facts.proofs.Machines.Sweeps.Nexts.{Stands, sweep_refusals, leads}
+use Rattle.session_facts.proofs.Machines.Refusals.{got_may, listed_may, done_may}
 use Rattle.session_facts.proofs.Machines.Sweeps.Reads.{root_reads, page_reads}
 use Rattle.session_facts.proofs.Machines.Sweeps.Others.{sweep_later}
 
@@ -79,10 +80,10 @@ module _ (who : Caller) (s t : CloudState) (book : Book) (order : List Entry) (s
       (page_goes (book.chain m.tree) (nodes_of s m.tree) (roots_of s m.tree) _ _ (chained m.tree of_tree) m.at m.visited at r.0 r.2)
 
   fails_may : {m : Sweeping} {a : Answer} → IsTree m.tree → Knew m → IsCall who (sweep_ask m) a s t → (why : Trouble) → Fails m a why → MayStopSweep why
-  fails_may of_tree k call why (step.no_root m held a x e) = got_may a x e
-  fails_may of_tree k call why (step.no_page m held a x e) = got_may a x e
-  fails_may of_tree k call why (step.no_list m held a x e) = listed_may a x e
-  fails_may of_tree k call why (step.not_removed m held a x e) = done_may a x e
+  fails_may of_tree k call why (step.no_root m held a x e) = got_may sweep_refusals a x e
+  fails_may of_tree k call why (step.no_page m held a x e) = got_may sweep_refusals a x e
+  fails_may of_tree k call why (step.no_list m held a x e) = listed_may sweep_refusals a x e
+  fails_may of_tree k call why (step.not_removed m held a x e) = done_may sweep_refusals a x e
   fails_may of_tree k call why (step.bad_root m None got x e) = absurd k.0
   fails_may of_tree k call why (step.bad_root m (Some l) got x e) = let is = root_reads book order s stands m.tree of_tree got call.row.2 in absurd (cc (e, is))
   fails_may of_tree k call why (step.bad_page m None got x e) = absurd k

@@ -19,7 +19,8 @@ use Rattle.session_facts.proofs.Machines.Risings.Stops.{rise_may, rising_may}
 use Rattle.session_facts.proofs.Machines.TreeCheckpoints.Keys.{all_below}
 use Rattle.session_facts.proofs.Machines.TreeCheckpoints.Onward.{IsDown, received, sought, down}
 use Rattle.session_facts.proofs.Machines.TreeCheckpoints.Reads.{root_read}
-use Rattle.session_facts.proofs.Machines.TreeCheckpoints.Stops.{StopsWell, got_may, received_may, given_may}
+use Rattle.session_facts.proofs.Machines.TreeCheckpoints.Stops.{StopsWell, tree_refusals}
+use Rattle.session_facts.proofs.Machines.Refusals.{got_may, received_may, given_may}
 use Rattle.session_facts.proofs.Machines.Trees.WayCharts.{KeepsChart}
 use Rattle.tree_ckpt.proofs.Leaving.{SameLeaf, LeavesLeaf, next_leaves}
 use Rattle.tree_ckpt.proofs.Outcomes.{Seeks, Descends, Ascends, Clears, Fails, Comes, has_ids}
@@ -135,12 +136,12 @@ module _ (who : Caller) (s t : CloudState) (book : Book) (order : List Entry) (s
 
   fails : {w : Work} {a : Answer} {held : Leases} {why : Trouble} → KnowsWork st t.now tree w → IsCall who (work_ask tree w) a s t → Behind w a → Fails tree w a held why
       → HoldsLast tree held.first held.second × MayStopTree why
-  fails k call b (step.no_tree l a why e) = (k, got_may a why e)
+  fails k call b (step.no_tree l a why e) = (k, got_may tree_refusals a why e)
   fails k call b (step.bad_tree l bytes e) =
       let some = tree_only bytes (newest_root (roots_of s) tree) (newest_root_decodes s tree bytes stands.decodes (sym call.row.2)) in absurd (cc (some, e))
-  fails k call b (step.no_messages l root a why e) = (k.0, received_may a why e)
+  fails k call b (step.no_messages l root a why e) = (k.0, received_may tree_refusals a why e)
   fails k call b (step.bad_message l root ms why takes) = absurd (received who s t book order stands tree of_tree l root ms _ k call takes)
-  fails k call b (step.no_lease h c a why e) = (k.0.lock_is, given_may (lock.Page c.chart.tree c.page) a why e)
+  fails k call b (step.no_lease h c a why e) = (k.0.lock_is, given_may tree_refusals (λ k until. tt) (lock.Page c.chart.tree c.page) a why e)
   fails k call b (step.no_way d why way) = let is = down who s t book order stands tree of_tree k call way in (is.under.lock_is, is.may)
   fails k call b (step.no_leaf h f g a why e) =
       let same : SameLeaf f g = subst (LeavesLeaf f) e (next_leaves f a) in
@@ -151,7 +152,7 @@ module _ (who : Caller) (s t : CloudState) (book : Book) (order : List Entry) (s
 
   pub work_leads : {w : Work} {a : Answer} {next : Step} → KnowsWork st t.now tree w → IsCall who (work_ask tree w) a s t → Behind w a → Comes tree w a next → KnowsWorkNext u t.now tree next
   work_leads k call b (step.takes_tree l) = ap (λ (x : Claim). x.lock) call.row.1
-  work_leads k call b (step.refused a why e) = given_may (lock.Tree tree) a why e
+  work_leads k call b (step.refused a why e) = given_may tree_refusals (λ k until. tt) (lock.Tree tree) a why e
   work_leads k call same (step.reads_tree l got is) = quietly (work.Receiving l got) same (k, root_read book order s stands t.now l tree got call.row.2)
   work_leads k call b (step.stops held why f) = fails k call b f
   work_leads k call b (step.descends h d way) =

@@ -25,7 +25,8 @@ use Rattle.session_facts.specs.Machines.Trees.Ways.{KnowsWay, WayLeads}
 use Rattle.session_facts.proofs.Machines.Runs.Received.{items_sent, none_damaged}
 use Rattle.session_facts.proofs.Machines.TreeCheckpoints.Keys.{least_is}
 use Rattle.session_facts.proofs.Machines.TreeCheckpoints.Reads.{received_sent, run_taken, none_covered}
-use Rattle.session_facts.proofs.Machines.TreeCheckpoints.Stops.{StopsWell, descent_may, got_may}
+use Rattle.session_facts.proofs.Machines.TreeCheckpoints.Stops.{StopsWell, descent_may, tree_refusals}
+use Rattle.session_facts.proofs.Machines.Refusals.{got_may}
 use Rattle.session_facts.proofs.Machines.Trees.Strides.{arrives}
 use Rattle.session_facts.proofs.Machines.Trees.Ways.{way_begins, got_leads}
 use Rattle.session_facts.proofs.Machines.Trees.WayCharts.{LeadsApart, KnowsDescent, arrive_apart, descent_apart, descent_known}
@@ -128,6 +129,6 @@ module _ (who : Caller) (s t : CloudState) (book : Book) (order : List Change) (
       }) (least_is c.from key c.run.items (Rises-sorted c.run.items rest.run.took.is_run.sorted) e)
   down k call (step.goes_on h d a) =
       let rest = k.1.rest in
-      is_down h d.chart (λ trouble. got_of a ≡ Err trouble) (got_may a) k.0 rest.run k.1.least (descent_apart d a rest.apart k.1.fresh)
+      is_down h d.chart (λ trouble. got_of a ≡ Err trouble) (got_may tree_refusals a) k.0 rest.run k.1.least (descent_apart d a rest.apart k.1.fresh)
       (got_leads book order s stands t.now h.lease d (record { chart = rest.chart; way = k.1.way }) k.1.above (got_of a)
       (λ v. held_seen who (object.Page d.chart.tree d.page) h.lease a s t call v))

@@ -1,4 +1,4 @@
--- A run of a tree's queue is no longer than the queue ever was, and a leaf that takes it has no more records than its own and the run's.
+-- A run of a tree's queue is no longer than the queue ever was.
 use Rattle.std.proofs.Common.{◌≡◌, ◌≢◌, ◌+◌, ◌<◌, ◌≤◌, ◌==◌, ◌⊎◌, inl, inr, ℕ, Bool, true, false, cond, count_by, List, [], ◌∷◌, length, Option, Some, None, refl, sym, ap, subst, ◌∙◌, arith}
 use Rattle.std.specs.Prelude.{slice_get}
 use Rattle.std.specs.declared.cmp.Ordering.{Ordering}
@@ -136,33 +136,3 @@ run_length st tree from run ids took =
     few_items (st.tally.posts tree 0) run.items
     (λ x is. (took.items x (run_in from took.received run.items run.top took.is_run x is)).sent)
     (λ x is. let once = took.is_run.once x.rec.client x.rec.number (run_within from took.received run.items run.top took.is_run x is) in omega (arith, once))
-
--- ---- a leaf
-
-valued_length : (key : List ℕ) (new : Option Value) (es : List Entry) → length (with_value key new es) ≤ length es + 1
-valued_length key None es = omega arith
-valued_length key (Some value) es = omega arith
-
-edited_length : (es : List Entry) (c : Change) → length (edited es c) ≤ length es + 1
-edited_length [] c = valued_length (key_of c) (act None c) []
-edited_length (e ∷ es) c = on (bytes_cmp e.key (key_of c)) (edited_length es c)
-  where
-    on : (o : Ordering) → length (edited es c) ≤ length es + 1 → length (edited_at o e es (edited es c) c) ≤ length (e ∷ es) + 1
-    on Less again = omega (arith, again)
-    on Equal again = let more = valued_length (key_of c) (act (Some e.value) c) es in omega (arith, more)
-    on Greater again = valued_length (key_of c) (act None c) (e ∷ es)
-
-all_length : (es : List Entry) (xs : List PuItem) → length (edited_by es xs) ≤ length es + length xs
-all_length es [] = omega arith
-all_length es (x ∷ xs) = let rest = all_length (edited es x.rec.change) xs in let one = edited_length es x.rec.change in omega (arith, rest, one)
-
-lacked_length : (l : Leaf) (queue : ℕ) (xs : List PuItem) → length (lacked l queue xs) ≤ length xs
-lacked_length l queue [] = omega arith
-lacked_length l queue (x ∷ xs) = on (is_lacked l queue x) (lacked_length l queue xs)
-  where
-    on : (b : Bool) → length (lacked l queue xs) ≤ length xs → length (cond b (x ∷ lacked l queue xs) (lacked l queue xs)) ≤ length (x ∷ xs)
-    on true again = omega (arith, again)
-    on false again = omega (arith, again)
-
-pub applied_records : (l : Leaf) (run : List PuItem) → length (applied l 0 run).records ≤ length l.records + length run
-applied_records l run = let all = all_length l.records (lacked l 0 run) in let few = lacked_length l 0 run in omega (arith, all, few)

@@ -28,7 +28,8 @@ use Rattle.session_facts.specs.Machines.Trees.Leaves.{KnowsLeaf}
 use Rattle.session_facts.specs.Machines.Risings.Knows.{IsLastVersion, piece_links, risen_node, PutsCut, PutsNode, PutsOf, whole as whole_root, cut, KnowsRising}
 use Rattle.session_facts.proofs.Sessions.Spent.{IsToldBy, last_leaf, whole_landed, whole_newest}
 use Rattle.session_facts.proofs.Machines.TreeCheckpoints.EntryCounts.{few_in_node, few_in_root, few_known, few_landed, few_links, few_pieces, pieces_more, pieces_noted}
-use Rattle.session_facts.proofs.Machines.TreeCheckpoints.RunLengths.{applied_records, run_length}
+use Rattle.session_facts.proofs.Machines.TreeCheckpoints.RunLengths.{run_length}
+use Rattle.tree_ckpt.proofs.RunLengths.{applied_records}
 use Rattle.session_facts.proofs.Machines.TreeCheckpoints.Troubles.{MeetsSpent, SpendsBehind, SpendsLeaf, SpendsUp}
 use Rattle.session_facts.proofs.Sessions.Shows.{IsFree}
 use Rattle.session_facts.proofs.Machines.Trees.Reserves.{root_names}

@@ -12,6 +12,7 @@ use Rattle.tree_phases.specs.declared.descent.Descent.{Descent}
 use Rattle.session_facts.specs.Machines.Trees.Ways.{WayLeads}
 use Rattle.tree_phases.specs.declared.reserve.Reserved.{Reserved}
 use Rattle.tree_phases.specs.Reserve.{version_spent, pages_spent, next_tree, reserved, reserved_by, reservation}
+use Rattle.session_facts.proofs.Machines.Refusals.{TakesRefusals}
 
 -- a step that stops does so for such a trouble
 abbrev pub StopsWell : {M A : Type 0} → Next M A → Type 0
@@ -33,40 +34,9 @@ abbrev pub IsFair : {X : Type 0} → Result X Trouble → Type 0
 IsFair (Ok x) = Unit {0}
 IsFair (Err t) = IsSpent t
 
--- ---- answers that bring no value
-
-refused_may : (a : Answer) → MayStopTree (trouble_of a)
-refused_may (Got v) = tt
-refused_may (Sent id) = tt
-refused_may (Received ms) = tt
-refused_may (Listed pages) = tt
-refused_may Done = tt
-refused_may (Given l) = tt
-refused_may (Held until) = tt
-refused_may (Renewed e) = tt
-refused_may (Late e n) = tt
-refused_may Failed = tt
-refused_may Memory = tt
-
-refusal : {X : Type 0} (a b : Trouble) (g : Result X Trouble) → MayStopTree a → g ≡ Err a → g ≡ Err b → MayStopTree b
-refusal a b g may e f = let same : a ≡ b = cc in subst MayStopTree same may
-
-pub got_may : (a : Answer) (t : Trouble) → got_of a ≡ Err t → MayStopTree t
-got_may (Got v) t e = absurd (cc)
-got_may a t e = refusal (trouble_of a) t (got_of a) (refused_may a) refl e
-
-pub received_may : (a : Answer) (t : Trouble) → received_of a ≡ Err t → MayStopTree t
-received_may (Received ms) t e = absurd (cc)
-received_may a t e = refusal (trouble_of a) t (received_of a) (refused_may a) refl e
-
-pub done_may : (a : Answer) (t : Trouble) → done_of a ≡ Err t → MayStopTree t
-done_may Done t e = absurd (cc)
-done_may a t e = refusal (trouble_of a) t (done_of a) (refused_may a) refl e
-
-pub given_may : (k : Lock) (a : Answer) (t : Trouble) → given_of k a ≡ Err t → MayStopTree t
-given_may k (Given l) t e = absurd (cc)
-given_may k (Held until) t e = refusal (trouble.Busy k until) t (given_of k (Held until)) tt refl e
-given_may k a t e = refusal (trouble_of a) t (given_of k a) (refused_may a) refl e
+-- an answer that brings no value stops it
+pub tree_refusals : TakesRefusals MayStopTree
+tree_refusals = record { failed = tt; late = λ until now. tt; memory = tt }
 
 -- ---- numbers that are reserved
 

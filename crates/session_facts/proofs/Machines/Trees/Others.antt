@@ -1,5 +1,6 @@
 -- What a checkpoint knows of its tree survives the calls of others, and its own that touch neither root nor inner nodes.
-use Rattle.std.proofs.Common.{◌≡◌, ◌-◌, ◌≤◌, inl, inr, ℕ, List, ap, ◌∙◌, arith}
+use Rattle.std.proofs.Common.{◌≡◌, ◌+◌, ◌-◌, ◌<◌, ◌≤◌, inl, inr, ℕ, List, [], ◌∷◌, length, refl, sym, ap, subst, ◌∙◌, arith}
+use Rattle.cloud_facts.specs.Chains.Chain.{IsUnlinked}
 use Rattle.cloud_facts.specs.Chains.Links.{newest_node, top_of}
 use Rattle.cloud_facts.proofs.Meanings.Steps.{at_stays, passed_stays}
 use Rattle.cloud_facts.specs.Words.{Inner, Tree, Claim, Lasts, Link, Store, Node, Leafy, Branch, IsIn}
@@ -12,7 +13,11 @@ use Rattle.tree_phases.specs.declared.kept.KeptNode.{KeptNode}
 use Rattle.tree_phases.specs.declared.link.Link.{Link as Found}
 use Rattle.tree_phases.specs.Read.{tree_held}
 use Rattle.session_facts.specs.Machines.Trees.Charts.{IsRootOf, KnowsRoot, KnowsNode, KnowsNodes, AreFound, KnowsChart}
+use Rattle.cloud_facts.specs.Calls.Links.{SameLinks}
 use Rattle.cloud_facts.specs.Calls.Others.{Others}
+use Rattle.split_plan.specs.Part.{Part}
+use Rattle.session_facts.specs.Machines.Trees.Placings.{AreReserved, numbered}
+use Rattle.session_facts.proofs.Machines.Trees.Placings.{reserved_stays}
 use Rattle.session_facts.specs.Machines.Trees.Ways.{IsOnWay}
 use Rattle.session_facts.proofs.Machines.Walks.Caches.{in_grown}
 
@@ -82,3 +87,36 @@ pub chart_others : (mine : List Claim) (st su : Store) (now later : ℕ) (lease 
     → Others mine later st su → KnowsChart st now lease c → KnowsChart su later lease c
 chart_others mine st su now later lease c after held is o k =
     chart_stays st su now later lease c after o.passes.grows (o.roots lease c.tree held is) (keeps_nodes mine st su later c.tree lease held is o) k
+
+-- ---- numbers that are reserved
+
+-- pages that are absent are guarded by the tree's lease, and those that landed and are in no chain stay as they are
+pub reserved_others : {A X : Type 0} (node : Part A X → Node) (mine : List Claim) (st su : Store) (later : ℕ) (lease : Claim) (tree first : ℕ) (middle behind : List (Part A X)) → IsIn mine lease
+    → lease.lock ≡ lock.Tree tree → Lasts later lease → Others mine later st su
+    → AreReserved node (st.book.chain tree) (st.tally.nodes tree) (st.tally.gone tree) (top_of (st.tally.roots tree)).next (numbered first middle behind)
+    → AreReserved node (su.book.chain tree) (su.tally.nodes tree) (su.tally.gone tree) (top_of (su.tally.roots tree)).next (numbered first middle behind)
+reserved_others {A} {X} node mine st su later lease tree first middle behind held is lasts o r =
+    reserved_stays node (st.book.chain tree) (su.book.chain tree) (st.tally.nodes tree) (su.tally.nodes tree) (st.tally.gone tree) (su.tally.gone tree) (top_of (st.tally.roots tree)).next (top_of (su.tally.roots tree)).next
+    first middle behind unlinked pages (o.gone lease tree held is lasts) rises r
+  where
+    links : SameLinks st su tree
+    links = o.links lease tree held is lasts
+
+    unlinked : (page : ℕ) → IsUnlinked (st.book.chain tree) page → IsUnlinked (su.book.chain tree) page
+    unlinked page none level link linked = none level link (subst (λ (ls : List Link). IsIn ls link) (links level) linked)
+
+    pages : (page : ℕ) → first ≤ page → page < first + (length middle + length behind) → su.tally.nodes tree page ≡ st.tally.nodes tree page
+    pages page low high = on (st.tally.nodes tree page) refl
+      where
+        none : IsUnlinked (st.book.chain tree) page
+        none = r.unlinked page low high
+
+        on : (ns : List Node) → st.tally.nodes tree page ≡ ns → su.tally.nodes tree page ≡ st.tally.nodes tree page
+        on [] e = o.page lease tree page held is lasts (inl (e, λ one. absurd (let above = r.above page low high in omega (arith, above, one))))
+        on (n ∷ ns) e = o.passes.grows.unlinked tree page (λ empty. never (sym empty ∙ e)) (λ level link. unlinked page none level link)
+          where
+            never : [] ≡ n ∷ ns → ⊥
+            never q = cc
+
+    rises : (top_of (st.tally.roots tree)).next ≤ (top_of (su.tally.roots tree)).next
+    rises = let same = ap (λ rs. (top_of rs).next) (o.roots lease tree held is lasts) in omega (arith, same)

@@ -25,6 +25,7 @@ pub mod Acknowledged
 pub mod LeftNone
 pub mod EachHeld
 pub mod Explained
+pub mod CountedSteps
 pub mod Counting
 pub mod Bounded
 pub mod Named

@@ -15,7 +15,7 @@ use Rattle.session_facts.proofs.Rows.CallKinds.{IsWorkersRow}
 use Rattle.session_facts.specs.Sessions.Knows.{Sessions}
 use Rattle.session_facts.proofs.Lines.More.{line_of}
 use Rattle.world_core.proofs.Workers.{HoldsWithin, IsBetween, holds_begun, holds_step, holds_went, holds_works, open_rests, within_begun, within_went, within_works, worker, worker_begins, worker_rows}
-use Rattle.world_core.proofs.Counting.{names_of, begins_own, went_counts, begun_none, worker_names, worker_went, works_none}
+use Rattle.world_core.proofs.CountedSteps.{names_of, begins_own, went_counts, begun_none, worker_names, worker_went, works_none}
 use Rattle.world_core.proofs.StandsLemmas.{IsUnderWay, way_begins, went_on}
 use Rattle.event_text.specs.declared.event.Event.TheVariants as event
 use Rattle.reply_text.specs.declared.reply.Reply.TheVariants as reply

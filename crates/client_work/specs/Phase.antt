@@ -1,5 +1,5 @@
 -- How a session stands, whatever is at work.
-use Rattle.std.specs.Prelude.{ℕ, Ok, Bool, true, false, nat_lt, if◌then◌else◌, List, [], Option, Some, None}
+use Rattle.std.specs.Prelude.{ℕ, Bool, true, false, nat_lt, if◌then◌else◌, List, [], Option, Some, None}
 use Rattle.db_base.specs.Limits.{last_indexed}
 use Rattle.db_base.specs.declared.refusal.Refusal.{Refusal}
 use Rattle.db_base.specs.declared.refusal.Refusal.TheVariants as rule
@@ -11,10 +11,7 @@ use Rattle.client_work.specs.declared.phase.Phase.{Phase}
 use Rattle.client_work.specs.declared.phase.Phase.TheVariants as phase
 use Rattle.client_work.specs.declared.work.Work.{Work}
 use Rattle.client_work.specs.declared.work.Work.TheVariants.{Closed, Idle, Opening, Committing, Reading, Scanning, Looking, Paging, Folding, Closing, Renewing, Settling, Sweeping, Broken}
-use Rattle.client_work.specs.declared.answer.Begun.{Begun}
-use Rattle.client_work.specs.declared.shown.Shown.{Shown}
-use Rattle.client_work.specs.declared.shown.Shown.TheVariants.{Nothing}
-use Rattle.client_work.specs.Session.{Begins, opening_rule_of, rule_of}
+use Rattle.client_work.specs.Session.{opening_rule_of, rule_of}
 
 abbrev pub phase_of : Work → Phase
 phase_of Closed = phase.Closed

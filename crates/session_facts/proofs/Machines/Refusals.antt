@@ -1,7 +1,7 @@
 -- Why an answer that brings no value stops a machine: the call failed, came too late or found no memory, or somebody holds the lock.
-use Rattle.std.proofs.Common.{◌≡◌, ℕ, Result, Ok, Err, refl, subst}
+use Rattle.std.proofs.Common.{◌≡◌, ℕ, Result, Err, refl, subst}
 use Rattle.cloud_facts.specs.Words.{Trouble, Lock, Answer, done_of, got_of, given_of, received_of, sent_of}
-use Rattle.cloud_trait.specs.declared.answer.Answer.TheVariants.{Got, Sent, Received, Listed, Done, Given, Held, Renewed, Late, Failed, Memory}
+use Rattle.cloud_trait.specs.declared.answer.Answer.TheVariants.{Got, Sent, Received, Listed, Done, Given, Held, Renewed, Late, Memory}
 use Rattle.cloud_trait.specs.Views.{trouble_of, listed_of, renewed_of}
 use Rattle.db_base.specs.declared.trouble.Trouble.TheVariants as trouble
 

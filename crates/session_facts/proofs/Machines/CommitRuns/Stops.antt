@@ -1,7 +1,7 @@
 -- Why a commit ends with nothing committed, or stays open: while its lease lasts its walks know their way, and no object is damaged.
 use Rattle.std.proofs.Common.{◌≡◌, ◌∙◌, ℕ, Bool, true, false, List, length, Option, Some, None, Result, Ok, Err, refl, sym, subst}
 use Rattle.cloud_facts.specs.Words.{IsTree, Trouble, CommitAnswer, ObjName, Entry, Leaf, Tree, Answer, CloudState, Caller, Next, Goes, Ends, Stops, done_of, sent_of, Book, Store, store_of, IsCall, StandsUnder}
-use Rattle.cloud_trait.specs.declared.answer.Answer.TheVariants.{Got, Sent, Received, Listed, Done, Given, Held, Renewed, Late, Failed, Memory}
+use Rattle.cloud_trait.specs.declared.answer.Answer.TheVariants.{Sent, Done, Memory}
 use Rattle.cloud_trait.specs.Views.{trouble_of}
 use Rattle.session_facts.specs.Machines.Commits.Knows.{MayCommit}
 use Rattle.session_facts.proofs.Machines.Commits.Near.{IsNear, near_routed}

@@ -1,15 +1,12 @@
 -- What a checkpoint knows at a leaf survives the calls of others.
-use Rattle.std.proofs.Common.{◌≡◌, ◌+◌, ◌<◌, ◌≤◌, ◌⊎◌, inl, inr, ℕ, true, List, [], ◌∷◌, length, length-append, Option, Some, None, refl, sym, ap, subst, ◌∙◌, arith}
-use Rattle.cloud_facts.specs.Chains.Chain.{IsUnlinked}
+use Rattle.std.proofs.Common.{◌≡◌, ◌≤◌, ◌⊎◌, inl, inr, ℕ, true, List, length, length-append, Option, Some, None, sym, ap, ◌∙◌, arith}
 use Rattle.cloud_facts.specs.Chains.Cuts.{leaf_node}
-use Rattle.cloud_facts.specs.Chains.Links.{top_of}
-use Rattle.cloud_facts.specs.Words.{IsClient, PuItem, Claim, Lasts, Link, Store, Node, Leafy, IsIn}
+use Rattle.cloud_facts.specs.Words.{IsClient, PuItem, Claim, Lasts, Store, Node, Leafy, IsIn}
 use Rattle.db_base.specs.Change.{key_of}
 use Rattle.db_base.specs.declared.names.Lock.TheVariants as lock
 use Rattle.tree_phases.specs.declared.folding.Folding.{Folding}
 use Rattle.leaf_view.specs.Lookup.{empty_leaf, holds}
 use Rattle.session_facts.proofs.Machines.Runs.Marks.{run_stays}
-use Rattle.split_plan.specs.Part.{LeafPart}
 use Rattle.cloud_facts.specs.Book.Growth.{Grows}
 use Rattle.cloud_facts.specs.Book.Telling.{last_or}
 use Rattle.cloud_facts.specs.Tellings.Taking.{IsLinked}
@@ -19,11 +16,9 @@ use Rattle.tree_ckpt.specs.declared.work.Coming.{Coming}
 use Rattle.tree_phases.specs.Read.{tree_held}
 use Rattle.session_facts.specs.Machines.Folds.Knows.{IsDone, KnowsRun, IsAtLeaf, IsNewestLeaf, Reserves, PutsPieces}
 use Rattle.session_facts.specs.Machines.Trees.Leaves.{KnowsRest, IsGetting, IsCome, IsReading, IsPutting}
-use Rattle.cloud_facts.specs.Calls.Links.{SameLinks}
-use Rattle.session_facts.specs.Machines.Trees.Placings.{AreReserved, numbered}
+use Rattle.session_facts.specs.Machines.Trees.Placings.{numbered}
 use Rattle.cloud_facts.specs.Calls.Others.{Others}
 use Rattle.session_facts.proofs.Machines.Trees.Others.{root_stays, nodes_stay, links_stay, keeps_nodes, chart_others, way_stays, reserved_others}
-use Rattle.session_facts.proofs.Machines.Trees.Placings.{reserved_stays}
 
 -- ---- the run
 

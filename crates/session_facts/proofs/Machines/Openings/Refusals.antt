@@ -1,14 +1,11 @@
 -- Why an answer stops an opening: a call failed, came too late or ran out of memory, and the lease may be held. No head and no message is damaged.
 use Rattle.std.proofs.Common.{◌≡◌, ℕ, List, [], ◌∷◌, map, Option, Some, None, Result, Ok, Err, refl, subst, ◌∙◌}
 use Rattle.std.specs.List.{AllByRecursion}
-use Rattle.cloud_facts.specs.Words.{Trouble, Lock, AtomicRec, Head, Answer, CloudState, newest, done_of, got_of, given_of, received_of, sent_of}
-use Rattle.cloud_trait.specs.declared.answer.Answer.TheVariants.{Got, Sent, Received, Listed, Done, Given, Held, Renewed, Late, Failed, Memory}
+use Rattle.cloud_facts.specs.Words.{AtomicRec, Head, CloudState, newest}
 use Rattle.cloud_trait.specs.declared.message.Message.{Message}
 use Rattle.cloud_trait.specs.Delivery.{WasSent}
-use Rattle.cloud_trait.specs.Views.{trouble_of}
 use Rattle.db_base.specs.declared.names.ObjName.TheVariants as object
 use Rattle.db_base.specs.declared.names.QueueName.TheVariants as queue
-use Rattle.db_base.specs.declared.trouble.Trouble.TheVariants as trouble
 use Rattle.cloud_facts.specs.Decoding.Decodes.{Decodes}
 use Rattle.cloud_facts.proofs.Decoding.Values.{newest_head_decodes, message_decodes}
 use Rattle.head_codec.specs.Head.{empty_head}

@@ -12,16 +12,14 @@ use Rattle.ckpt_parts.specs.Leasing.{without_newest}
 use Rattle.ckpt_parts.specs.Leaves.{HoldsLinked}
 use Rattle.ckpt_parts.specs.declared.intake.Intake.{Intake}
 use Rattle.ckpt_parts.specs.declared.leases.Leases.{Leases}
-use Rattle.cloud_facts.specs.Words.{IsClient, IsTree, Trouble, QueueName, Lock, PuItem, Leaf, Answer, Claim, Goes, Ends, Stops, done_of, got_of, given_of, received_of, Link, Store, Node, IsIn}
+use Rattle.cloud_facts.specs.Words.{IsClient, IsTree, Trouble, QueueName, PuItem, Leaf, Answer, Claim, Goes, Ends, Stops, done_of, Link, Store, Node, IsIn}
 use Rattle.cloud_trait.specs.Delivery.{WasSent}
-use Rattle.cloud_trait.specs.Views.{trouble_of}
-use Rattle.cloud_trait.specs.declared.answer.Answer.TheVariants.{Got, Sent, Received, Listed, Done, Given, Held, Renewed, Late, Failed, Memory}
+use Rattle.cloud_trait.specs.declared.answer.Answer.TheVariants.{Got, Received, Done, Given}
 use Rattle.cloud_trait.specs.declared.message.Message.{Message}
 use Rattle.db_base.specs.Change.{key_of}
 use Rattle.db_base.specs.Cursor.{number_of}
 use Rattle.db_base.specs.Ids.{IsPage}
 use Rattle.db_base.specs.declared.names.Lock.TheVariants as lock
-use Rattle.db_base.specs.declared.trouble.Trouble.TheVariants as trouble
 use Rattle.leaf_edit.specs.Lacked.{lacked}
 use Rattle.leaf_view.specs.Lookup.{holds, number_of as done_number}
 use Rattle.cloud_facts.specs.Numbers.Numbers.{Numbers}

@@ -1,14 +1,13 @@
 -- What a checkpoint knows on its way up survives the calls of others.
-use Rattle.std.proofs.Common.{◌≡◌, ◌+◌, ◌-◌, ◌<◌, ◌≤◌, inl, ℕ, List, [], ◌∷◌, length, drop, Option, Some, None, refl, sym, ap, subst, ◌∙◌, arith}
-use Rattle.cloud_facts.specs.Chains.Chain.{IsUnlinked}
+use Rattle.std.proofs.Common.{◌≡◌, ◌-◌, ◌≤◌, ℕ, List, [], drop, Option, Some, None, ap, ◌∙◌, arith}
 use Rattle.cloud_facts.specs.Chains.Cuts.{inner_node}
 use Rattle.cloud_facts.specs.Chains.Links.{top_of, NamesBelow}
-use Rattle.cloud_facts.specs.Words.{Tree, Claim, Lasts, Link, Store, Node, Leafy, Branch, IsIn}
+use Rattle.cloud_facts.specs.Words.{Tree, Claim, Lasts, Store, Node, Leafy, Branch, IsIn}
 use Rattle.db_base.specs.declared.names.Lock.TheVariants as lock
 use Rattle.leaf_view.specs.Lookup.{empty_leaf}
 use Rattle.node_codec.specs.Node.{Entry}
 use Rattle.session_facts.proofs.Machines.Runs.Marks.{run_stays}
-use Rattle.split_plan.specs.Part.{Part, NodePart}
+use Rattle.split_plan.specs.Part.{NodePart}
 use Rattle.cloud_facts.specs.Book.Growth.{Grows}
 use Rattle.cloud_facts.specs.Book.Telling.{last_or}
 use Rattle.tree_phases.specs.declared.chart.Chart.{Chart}
@@ -16,13 +15,11 @@ use Rattle.tree_phases.specs.declared.kept.KeptNode.{KeptNode}
 use Rattle.tree_phases.specs.Read.{tree_held}
 use Rattle.tree_phases.specs.declared.rising.Rising.{Rising}
 use Rattle.session_facts.specs.Machines.Trees.Charts.{KnowsNode}
-use Rattle.cloud_facts.specs.Calls.Links.{SameLinks}
 use Rattle.session_facts.specs.Machines.Trees.Placings.{AreReserved, numbered}
 use Rattle.session_facts.specs.Machines.Risings.Knows.{AppliesRun, ReservesNodes, PutsNode, IsRaised, PutsCut, PutsRoot, whole, cut, PutsOf, KnowsRising}
 use Rattle.cloud_facts.specs.Calls.Others.{Others}
 use Rattle.session_facts.proofs.Machines.Trees.Others.{root_stays, KeepsNodes, nodes_stay, links_stay, keeps_nodes, reserved_others}
 use Rattle.session_facts.proofs.Machines.Folds.Others.{done_stays}
-use Rattle.session_facts.proofs.Machines.Trees.Placings.{reserved_stays}
 use Rattle.session_facts.proofs.Machines.Walks.Caches.{in_grown}
 
 -- ---- what only grows

@@ -1,11 +1,8 @@
 -- Where the answer to a call of a sweep leads, by what was known before it and by what it brought.
-use Rattle.std.proofs.Common.{◌≡◌, ◌≤◌, ◌⊎◌, inl, inr, ℕ, length, Option, Some, None, Result, Err, refl, sym, ap, subst, ◌∙◌, arith}
-use Rattle.cloud_facts.specs.Words.{IsTree, Trouble, Lock, Answer, CloudState, Caller, Claim, done_of, got_of, given_of, Store, IsCall}
+use Rattle.std.proofs.Common.{◌≡◌, ◌≤◌, ◌⊎◌, inl, inr, ℕ, length, Option, Some, None, refl, ap, subst, arith}
+use Rattle.cloud_facts.specs.Words.{IsTree, Trouble, Answer, CloudState, Caller, Claim, Store, IsCall}
 use Rattle.cloud_facts.specs.Homes.Homes.{Part}
-use Rattle.cloud_trait.specs.declared.answer.Answer.TheVariants.{Got, Sent, Received, Listed, Done, Given, Held, Renewed, Late, Failed, Memory}
-use Rattle.cloud_trait.specs.Views.{trouble_of, listed_of}
 use Rattle.db_base.specs.declared.names.Lock.TheVariants as lock
-use Rattle.db_base.specs.declared.trouble.Trouble.TheVariants as trouble
 use Rattle.orphan_sweep.proofs.Lists.{past}
 use Rattle.orphan_sweep.proofs.Outcomes.{leased, Onward, Clears, Fails, Comes}
 use Rattle.orphan_sweep.proofs.Outcomes as step

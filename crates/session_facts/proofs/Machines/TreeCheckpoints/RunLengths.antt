@@ -1,23 +1,13 @@
 -- A run of a tree's queue is no longer than the queue ever was.
-use Rattle.std.proofs.Common.{◌≡◌, ◌≢◌, ◌+◌, ◌<◌, ◌≤◌, ◌==◌, ◌⊎◌, inl, inr, ℕ, Bool, true, false, cond, count_by, List, [], ◌∷◌, length, Option, Some, None, refl, sym, ap, subst, ◌∙◌, arith}
+use Rattle.std.proofs.Common.{◌≡◌, ◌≢◌, ◌+◌, ◌<◌, ◌≤◌, ◌==◌, ◌⊎◌, inl, inr, ℕ, Bool, true, cond, count_by, List, [], ◌∷◌, length, Some, refl, sym, ap, subst, ◌∙◌, arith}
 use Rattle.std.specs.Prelude.{slice_get}
-use Rattle.std.specs.declared.cmp.Ordering.{Ordering}
-use Rattle.std.specs.declared.cmp.Ordering.TheVariants.{Less, Equal, Greater}
 use Rattle.std.proofs.lemmas.Bool.{and_from, eq-eqb}
 use Rattle.std.proofs.lemmas.List.Sums.{sum_by-cons}
-use Rattle.byte_format.specs.Order.{bytes_cmp}
 use Rattle.cloud_facts.proofs.Book.Places.{get_within}
 use Rattle.cloud_facts.proofs.Chains.Pieces.{in_cases, in_first, in_rest, none_in}
 use Rattle.cloud_facts.specs.Book.Messages.{HasCopy}
-use Rattle.cloud_facts.specs.Words.{PuItem, Leaf, Posted, Store, IsIn}
+use Rattle.cloud_facts.specs.Words.{PuItem, Posted, Store, IsIn}
 use Rattle.cloud_facts.specs.Book.Records.{Apart}
-use Rattle.db_base.specs.Change.{key_of, act}
-use Rattle.db_base.specs.Value.{Value}
-use Rattle.db_base.specs.declared.change.Change.{Change}
-use Rattle.leaf_edit.specs.Applied.{applied}
-use Rattle.leaf_edit.specs.Edited.{with_value, edited_at, edited, edited_by}
-use Rattle.leaf_edit.specs.Lacked.{is_lacked, lacked}
-use Rattle.leaf_view.specs.Leaf.{Entry}
 use Rattle.log_codec.specs.Pu.{pu_of}
 use Rattle.log_codec.specs.declared.record.PuRec.{PuRec}
 use Rattle.run_cursor.specs.Run.{Taken, is_at}

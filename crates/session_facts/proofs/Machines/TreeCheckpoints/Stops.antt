@@ -1,9 +1,7 @@
 -- Why an answer, a plan or a way down stops a checkpoint: no damage does.
-use Rattle.std.proofs.Common.{◌≡◌, ◌+◌, ◌==◌, ℕ, Bool, true, false, cond, Some, None, Result, Ok, Err, refl, subst}
+use Rattle.std.proofs.Common.{◌+◌, ◌==◌, ℕ, Bool, true, false, cond, Some, None, Result, Ok, Err}
 use Rattle.std.specs.Prelude.{nat_lt}
-use Rattle.cloud_facts.specs.Words.{Trouble, Lock, Tree, Answer, Claim, Next, Goes, Ends, Stops, done_of, got_of, given_of, received_of, Store}
-use Rattle.cloud_trait.specs.declared.answer.Answer.TheVariants.{Got, Sent, Received, Listed, Done, Given, Held, Renewed, Late, Failed, Memory}
-use Rattle.cloud_trait.specs.Views.{trouble_of}
+use Rattle.cloud_facts.specs.Words.{Trouble, Tree, Claim, Next, Goes, Ends, Stops, Store}
 use Rattle.db_base.specs.declared.trouble.Trouble.TheVariants as trouble
 use Rattle.node_codec.specs.Tree.{tree_bytes}
 use Rattle.session_facts.specs.Sessions.Spent.{IsOfFolding}

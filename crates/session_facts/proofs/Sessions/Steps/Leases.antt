@@ -12,7 +12,7 @@ use Rattle.cloud_facts.proofs.Calls.Calls.{call_of, permitted}
 use Rattle.cloud_facts.proofs.Calls.Outcomes.{quiet, gives_up}
 use Rattle.cloud_trait.specs.declared.answer.Answer.TheVariants.{Renewed, Late, Failed, Memory}
 use Rattle.cloud_trait.specs.Claim.{extended}
-use Rattle.cloud_trait.specs.Weather.{leased, counted, RenewsBoth, RenewsLease}
+use Rattle.cloud_trait.specs.Weather.{leased, RenewsBoth, RenewsLease}
 use Rattle.db_base.specs.declared.trouble.Trouble.TheVariants as trouble
 use Rattle.history.specs.Audited.{Audited}
 use Rattle.cloud_facts.specs.Homes.Homes.{Part, Away, AtHome, Parts, HomesHold}

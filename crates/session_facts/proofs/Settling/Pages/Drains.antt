@@ -1,42 +1,23 @@
--- The checkpoint of a page that ran whole marks just what it received, and its page's right page is the one that it read.
-use Rattle.std.proofs.Common.{◌≡◌, ◌≤◌, ℕ, List, [], ◌∷◌, ◌++◌, length, Ok, sym, ap, subst, ◌∙◌, arith}
-use Rattle.std.specs.List.{AllByRecursion}
-use Rattle.ckpt_parts.specs.Intakes.{ids_of}
-use Rattle.cloud_facts.specs.Words.{IsClient, IsTree, QueueName, Leaf, Ended, Posted, called, Ask, Release, Deed, Store, IsIn, nodes_of, IsCall}
+-- The checkpoint of a page that ran whole in a settling marks just what it received, and its page's right page is the one that it read.
+use Rattle.std.proofs.Common.{◌≡◌, ℕ, List, sym, ap, subst, ◌∙◌}
+use Rattle.cloud_facts.specs.Words.{IsTree, Ended, Deed, nodes_of}
 use Rattle.cloud_facts.specs.Book.Tally.{right_of}
-use Rattle.cloud_facts.specs.Book.Telling.{leaf_in, queue_of}
-use Rattle.cloud_trait.proofs.RowLemmas.{row_messages}
-use Rattle.cloud_trait.specs.Delivery.{unmarked, WasSent, IsDelivering}
-use Rattle.cloud_trait.specs.declared.message.Message.{Message}
-use Rattle.cloud_trait.specs.declared.turn.CkptAnswer.{CkptAnswer}
-use Rattle.db_base.specs.Cursor.{number_of}
 use Rattle.db_base.specs.Ids.{IsPage}
-use Rattle.db_base.specs.declared.names.Lock.TheVariants as lock
-use Rattle.db_base.specs.declared.names.ObjName.TheVariants as object
 use Rattle.db_base.specs.declared.names.QueueName.TheVariants as queue
-use Rattle.leaf_view.specs.Lookup.{number_of as done_number}
 use Rattle.page_ckpt.proofs.Meaning.{went_knows, knows_done}
-use Rattle.page_ckpt.specs.Meaning.{scene, opening_calls, failed_count, main_calls, IsDone}
+use Rattle.page_ckpt.specs.Meaning.{IsDone}
 use Rattle.page_ckpt.specs.Paging.{Paging, paging_ask}
 use Rattle.page_ckpt.specs.Leases.{Went}
 use Rattle.session_facts.proofs.Machines.PageCheckpoints.Explains.{paging_ends}
-use Rattle.session_facts.proofs.Machines.PageCheckpoints.Reads.{named_is}
-use Rattle.session_facts.proofs.Machines.Runs.Leaves.{own_cursor, own_queue}
-use Rattle.session_facts.proofs.Settling.Drains.{left_by, marked_over, waiting_over, left_count, left_kept, all_covered, covered_received}
-use Rattle.session_facts.proofs.Settling.Pages.Calls.{IsOver, main_quiet, ids_tried, deletes_done, ids_there, ids_only, OpensQueue, opens}
-use Rattle.session_facts.proofs.Settling.Pages.Stories.{EndsFrom, ends_from, turn_page, turn_rights, story_trail, story_rights, page_went}
-use Rattle.session_facts.proofs.Settling.Stories.{turn_asks}
-use Rattle.session_facts.proofs.Settling.Trails.{Calls, AreQuiet, deletions_of, Splits, splits, trail_messages, trail_deletes}
+use Rattle.session_facts.proofs.Settling.Pages.Stories.{EndsFrom, ends_from, turn_page, turn_rights, turn_between, story_trail, story_rights, page_went}
 use Rattle.session_facts.specs.Machines.PageCheckpoints.Rights.{IsNewestLeaf}
-use Rattle.session_facts.specs.Settling.Runs.{AreDelivered, Drains, waiting, right_at}
+use Rattle.session_facts.specs.Settling.Runs.{AreDelivered, Drains, right_at}
 use Rattle.session_facts.specs.Settling.Story.{Moment, store_at, IsTurn, PartStory, PartRan}
 use Rattle.session_facts.specs.Machines.Settlings.Knows.{MakesPage}
 use Rattle.settle_run.specs.declared.part.Part.{Part}
 use Rattle.settle_run.specs.declared.part.Part.TheVariants.{Page}
-
-pub delivered_part : (xs ys : List Deed) → AreDelivered (xs ++ ys) → AreDelivered ys
-delivered_part [] ys well = well
-delivered_part (d ∷ xs) ys well = delivered_part xs ys well.1
+use Rattle.session_facts.proofs.Settling.Pages.Emptied.{home_newest, page_drained}
+use Rattle.session_facts.proofs.Settling.Trails.{IsBetween, Trail}
 
 module _ (tree page : ℕ) (m : Paging) (h : List Deed) (first last : Moment) (ran : PartRan (Page tree page m) h first last) where
   pub ending : EndsFrom tree page ran.from ran.end.answer m
@@ -69,68 +50,19 @@ module _ (tree page : ℕ) (m : Paging) (h : List Deed) (first last : Moment) (r
   pub went : Went ran.earlier was
   went = page_went first ran.earlier tree page was ran.before known.tree_is known.page_is story
 
+  trail : Trail ran.earlier first.state ran.before.state
+  trail = story_trail first ran.earlier (Page tree page was) ran.before story
+
+  between : IsBetween ran.end ran.before.state last.state
+  between = turn_between ran.end (Page tree page was) ran.before last turn
+
   pub done : IsDone (paging_ask was) m ran.earlier ending.answer
   done = knows_done was m ran.earlier ran.end.answer (Ended ending.answer) (went_knows was ran.earlier went) ending.leads
 
-  none_failed : failed_count done.tried ≡ 0
-  none_failed = sym (ap (λ (x : CkptAnswer). x.left) done.answers) ∙ ending.left
-
-  -- ---- its calls, in three parts
-
-  abbrev q : QueueName
-  q = queue.PagePu m.tree m.page
-
-  abbrev pub ids : List ℕ
-  ids = ids_tried done.tried
-
-  abbrev main : Calls
-  main = main_calls (scene m) done.lease done.opening done.visits done.out
-
-  abbrev messages : List Message
-  messages = (done.opening).messages
-
-  over : IsOver main (opening_calls (scene m) done.lease done.opening)
-  over = main_quiet (scene m) done.lease done.opening done.visits done.out
-
-  late : Splits ran.earlier (deletions_of q ids) main first.state ran.before.state
-  late =
-      splits ran.earlier (deletions_of q ids) main first.state ran.before.state (story_trail first ran.earlier (Page tree page was) ran.before story)
-      (done.calls ∙ deletes_done (scene m) done.tried main none_failed)
-
-  early : Splits late.before over.0 (opening_calls (scene m) done.lease done.opening) first.state late.mid
-  early = splits late.before over.0 (opening_calls (scene m) done.lease done.opening) first.state late.mid late.first (late.earlier_are ∙ over.1)
-
-  opened : OpensQueue q 256 (object.Page m.tree m.page) messages (done.opening).got early.before first.state early.mid
-  opened =
-      opens q 256 (object.Page m.tree m.page) messages (done.opening).got done.lease (lock.Page m.tree m.page) 30 early.before first.state early.mid early.first early.earlier_are
-
-  -- ---- the messages
-
-  before_deleting : late.mid.messages ≡ first.state.messages
-  before_deleting = trail_messages early.behind early.mid late.mid early.second (subst AreQuiet (sym early.later_are) over.2) ∙ opened.messages
-
-  release : IsCall ran.end.who (Release done.lease) ran.end.answer ran.before.state last.state
-  release =
-      subst (λ (ask : Ask). IsCall ran.end.who ask ran.end.answer ran.before.state last.state) done.last (turn_asks ran.end (Page tree page was) ran.before last turn)
-
-  at_last : last.state.messages q ≡ marked_over (first.state.messages q) ids
-  at_last =
-      ap (λ (f : QueueName → List Posted). f q)
-      (row_messages ran.end.who (Release done.lease) ran.end.answer release.before release.after (called ran.end.who last.state.now ran.before.state) last.state release.row tt)
-      ∙ (trail_deletes q ids late.behind late.mid ran.before.state late.second late.later_are ∙ ap (λ (f : QueueName → List Posted). marked_over (f q) ids) before_deleting)
-
-  delivered : AreDelivered h → IsDelivering (first.state.messages q) 256 messages
-  delivered well =
-      opened.delivers
-      (delivered_part early.behind early.before
-      (subst AreDelivered early.all (delivered_part late.behind late.before (subst AreDelivered late.all (subst AreDelivered ran.is well).1))))
-
-  -- ---- the page
-
-  -- its newest version at the begin is the leaf that was read
-  pub home_newest : IsNewestLeaf (nodes_of first.state m.tree) m.page m.home
-  home_newest =
-      named_is first.book first.order first.state first.stand.cloud m.tree of_tree m.page (done.opening).got (Ok m.home) (sym opened.seen) (done.opened).home
+  -- by what such a checkpoint leaves, whosever it is
+  leaf_read : IsNewestLeaf (nodes_of first.state m.tree) m.page m.home
+  leaf_read =
+      home_newest first was m ran.earlier ran.end ending.answer ran.before.state last.state went trail between turn.asked ending.leads ending.left of_tree of_page
 
   pub same_rights : (p : ℕ) → right_at last.state tree p ≡ right_at first.state tree p
   same_rights p = turn_rights ran.end tree page was ran.before last turn tree p ∙ story_rights first ran.earlier tree page was ran.before story tree p
@@ -138,54 +70,11 @@ module _ (tree page : ℕ) (m : Paging) (h : List Deed) (first last : Moment) (r
   pub right_read : right_at last.state tree page ≡ m.home.right
   right_read =
       same_rights page
-      ∙ (ap (λ (k : ℕ). right_at first.state k page) (sym tree_is) ∙ (ap (λ (n : ℕ). right_at first.state m.tree n) (sym page_is) ∙ ap right_of home_newest.is))
+      ∙ (ap (λ (k : ℕ). right_at first.state k page) (sym tree_is) ∙ (ap (λ (n : ℕ). right_at first.state m.tree n) (sym page_is) ∙ ap right_of leaf_read.is))
 
-  -- ---- what the run covers
-
-  abbrev st : Store
-  st = store_at first
-
-  behind : (client : ℕ) → IsClient client → st.tally.cursor m.tree m.page client ≤ number_of (done.opening).cursor client
-  behind client is =
-      let own = own_cursor first.state m.tree m.page client of_page in
-      let home = ap (λ (l : Leaf). done_number l.done m.page client) (ap leaf_in home_newest.is) in
-      let read = ((done.opened).own).each client in
-      omega (arith, own, home, read)
-
-  queue_is : queue_of m.tree m.page ≡ q
-  queue_is = own_queue m.tree m.page of_page
-
-  module _ (well : AreDelivered h) where
-    covers : (id : ℕ) → IsIn (ids_of messages) id → IsIn ids id
-    covers id is =
-        ids_there done.tried id
-        (subst (λ (l : List ℕ). IsIn l id) (sym done.covered)
-        (all_covered st first.stand.cloud.holds.copies m.tree m.page 256 messages (done.opening).items m.run.items (done.opening).cursor m.run.top
-        (subst (λ (k : QueueName). AllByRecursion (WasSent (first.state.messages k)) messages) (sym queue_is) opened.sent)
-        (subst (λ (k : QueueName). IsDelivering (first.state.messages k) 256 messages) (sym queue_is) (delivered well)) (done.opened).read (done.opened).run behind id is))
-
-    only : (id : ℕ) → IsIn ids id → IsIn (ids_of messages) id
-    only id there =
-        covered_received messages (done.opening).items m.run.top (done.opened).read id (subst (λ (l : List ℕ). IsIn l id) done.covered (ids_only done.tried id there))
-
-    waiting_is : waiting last.state q ≡ left_by ids (waiting first.state q)
-    waiting_is = ap unmarked at_last ∙ waiting_over (first.state.messages q) ids
-
-    own_drains : Drains q m.received first.state last.state
-    own_drains = record {
-      messages = messages;
-      delivered = delivered well;
-      told = (done.opened).told;
-      kept = λ x is.
-          let k = left_kept (first.state.messages q) 256 messages ids (delivered well) covers only x (subst (λ (l : List Message). IsIn l x) waiting_is is) in
-          (k.0, λ there. k.1 (subst (λ (l : List ℕ). IsIn l x.id) (done.opened).told there));
-      count =
-          let left = ap length waiting_is in
-          let all = left_count (first.state.messages q) 256 messages ids (delivered well) covers only in
-          let told = ap length (done.opened).told in
-          omega (arith, left, all, told);
-    }
-
-    pub page_drains : Drains (queue.PagePu tree page) m.received first.state last.state
-    page_drains = subst (λ (k : ℕ). Drains (queue.PagePu k page) m.received first.state last.state) tree_is
-        (subst (λ (n : ℕ). Drains (queue.PagePu m.tree n) m.received first.state last.state) page_is own_drains)
+  pub page_drains : AreDelivered h → Drains (queue.PagePu tree page) m.received first.state last.state
+  page_drains well =
+      subst (λ (k : ℕ). Drains (queue.PagePu k page) m.received first.state last.state) tree_is
+      (subst (λ (n : ℕ). Drains (queue.PagePu m.tree n) m.received first.state last.state) page_is
+      (page_drained first was m ran.earlier ran.end ending.answer ran.before.state last.state went trail between turn.asked ending.leads ending.left of_tree of_page
+      (subst AreDelivered ran.is well)))

@@ -1,5 +1,5 @@
 -- A page's checkpoint that is done, of any session and with nobody else at work, marks just what it received; where at most 256 waited it leaves none.
-use Rattle.std.proofs.Common.{◌≡◌, ◌≤◌, ℕ, List, [], ◌∷◌, length, Ok, sym, ap, subst, ◌∙◌, arith}
+use Rattle.std.proofs.Common.{◌≡◌, ◌≤◌, ℕ, List, [], ◌∷◌, ◌++◌, length, Ok, sym, ap, subst, ◌∙◌, arith}
 use Rattle.std.specs.List.{AllByRecursion}
 use Rattle.ckpt_parts.specs.Intakes.{ids_of}
 use Rattle.cloud_facts.specs.Words.{IsClient, IsTree, QueueName, Leaf, Ended, Posted, CloudState, called, Ask, Release, Ends, Deed, Store, IsIn, nodes_of, IsCall}
@@ -23,11 +23,14 @@ use Rattle.session_facts.proofs.Machines.Runs.Leaves.{own_cursor, own_queue}
 use Rattle.session_facts.proofs.Settling.Drains.{left_by, marked_over, waiting_over, left_count, left_kept, all_covered, covered_received}
 use Rattle.session_facts.proofs.Settling.Pages.Calls.{IsOver, main_quiet, ids_tried, deletes_done, ids_there, ids_only, OpensQueue, opens}
 use Rattle.session_facts.proofs.Settling.Trees.Emptied.{drained}
-use Rattle.session_facts.proofs.Settling.Pages.Drains.{delivered_part}
 use Rattle.session_facts.proofs.Settling.Trails.{Calls, AreQuiet, IsBetween, Trail, between_call, deletions_of, Splits, splits, trail_messages, trail_deletes}
 use Rattle.session_facts.specs.Machines.PageCheckpoints.Rights.{IsNewestLeaf}
 use Rattle.session_facts.specs.Settling.Runs.{AreDelivered, Drains, waiting}
 use Rattle.session_facts.specs.Settling.Story.{Moment, store_at}
+
+delivered_part : (xs ys : List Deed) → AreDelivered (xs ++ ys) → AreDelivered ys
+delivered_part [] ys well = well
+delivered_part (d ∷ xs) ys well = delivered_part xs ys well.1
 
 module _ (first : Moment) (was m : Paging) (earlier : List Deed) (end : Deed) (answer : CkptAnswer) (before last : CloudState) (went : Went earlier was)
     (trail : Trail earlier first.state before) (turn : IsBetween end before last) (asked : end.ask ≡ paging_ask was)
@@ -91,7 +94,7 @@ module _ (first : Moment) (was m : Paging) (earlier : List Deed) (end : Deed) (a
   -- ---- the page
 
   -- its newest version at the begin is the leaf that was read
-  home_newest : IsNewestLeaf (nodes_of first.state m.tree) m.page m.home
+  pub home_newest : IsNewestLeaf (nodes_of first.state m.tree) m.page m.home
   home_newest =
       named_is first.book first.order first.state first.stand.cloud m.tree of_tree m.page (done.opening).got (Ok m.home) (sym opened.seen) (done.opened).home
 

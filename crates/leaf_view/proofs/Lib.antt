@@ -3,3 +3,4 @@ pub mod Spelled
 pub mod Split
 pub mod Reading
 pub mod PartsLemmas
+pub mod Climbing

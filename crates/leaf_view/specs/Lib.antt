@@ -5,3 +5,4 @@ pub mod Parts
 pub mod Shown
 pub mod Sound
 pub mod Spelled
+pub mod Ascent

@@ -1,6 +1,7 @@
 //! Leaves, borrowed from the bytes that spell them.
 #![tactic(auto)]
 
+mod ascent;
 mod done;
 mod done_list;
 mod done_rules;

@@ -1,5 +1,6 @@
 //! A leaf, borrowed from its bytes.
 
+use crate::ascent::skip_records;
 use crate::done_list::DoneList;
 use crate::done_rules::DoneRules;
 use crate::head::head_at;
@@ -83,7 +84,7 @@ impl<'a> LeafView<'a> {
             low: head.low,
             high: head.high,
         };
-        let rest = skip_list(&rules, true, records)?;
+        let rest = skip_records(&rules, records)?;
         if !rest.is_empty() {
             return Err(Stop::at(rest));
         }

@@ -2,7 +2,7 @@ use Rattle.std.proofs.Common.{◌≡◌, true, false, eqb, length, refl, arith}
 use Rattle.std.proofs.lemmas.Result.{err_from_is_err_and}
 use Rattle.std.specs.Option.{option_copied}
 use Rattle.leaf_view.specs.Leaf.{Head, head_of}
-use Rattle.leaf_view.proofs.Exact.{done_exact, record_exact}
+use Rattle.leaf_view.proofs.Exact.{done_exact}
 use Rattle.leaf_view.proofs.Reading.{head_fails, done_fails, records_fail, goes_on, is_read}
 use Rattle.leaf_view.proofs.view.LeafView.whole.Goals as goal
 
@@ -18,9 +18,6 @@ pub returns-in_err-records : goal.returns-in_err-records
 returns-in_err-records c =
     let p = err_from_is_err_and c.from_residual-in_err-records.result c.from_residual-in_err-records.ensures.1 in
     rw (p.1, p.2) (done_fails c.args.bytes.now _ c.in_ok-head.done.now c.in_err-records.field-0.0.left c.in_ok-head.ensures c.in_err-records.ensures)
-
-pub skip_list-requires-2 : goal.skip_list-requires-2
-skip_list-requires-2 c κs = ((refl, tt), record_exact c.in_ok-head.head.format c.in_ok-head.head.low.now (option_copied c.in_ok-head.head.high))
 
 pub returns-in_err-rest : goal.returns-in_err-rest
 returns-in_err-rest c =

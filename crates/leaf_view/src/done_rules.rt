@@ -88,13 +88,13 @@ pub(crate) fn split_done(bytes: &[u8]) -> Option<(Done, &[u8])>
         × (items_in plain_done bytes.now ≡ x.0 ∷ items_in plain_done x.1.now)) }
 {
     let Ok((more, rest)) = more_at(bytes, true) else {
-        return None;
+        unreachable!()
     };
     if !more {
         return None;
     }
     let Ok((item, rest)) = done_at(rest) else {
-        return None;
+        unreachable!()
     };
     Some((item, rest))
 }

@@ -79,13 +79,13 @@ pub(crate) fn split_entry(bytes: &[u8], format: u8) -> Option<(EntryView<'_>, &[
     ensures all { IsAll format bytes.now → IfSome result (λ x. IsAll format x.1.now) }
 {
     let Ok((more, rest)) = more_at(bytes, true) else {
-        return None;
+        unreachable!()
     };
     if !more {
         return None;
     }
     let Ok((entry, rest)) = entry_at(rest, format) else {
-        return None;
+        unreachable!()
     };
     Some((entry, rest))
 }

@@ -6,18 +6,18 @@ use Rattle.leaf_view.proofs.Exact.{plain_entry_exact}
 use Rattle.leaf_view.proofs.Spelled.{all-behind}
 use Rattle.leaf_view.proofs.entry.split_entry.Goals as goal
 
-pub returns-in_default-clause-first : goal.returns-in_default-clause-first
-returns-in_default-clause-first c = absurd (more_of (plain_entry c.args.format) c.args.bytes.now c.in_default.field-0.left c.requires c.in_default.ensures)
+pub unreachable-requires : goal.unreachable-requires
+unreachable-requires c = more_of (plain_entry c.args.format) c.args.bytes.now c.in_default.field-0.left c.requires c.in_default.ensures
 
 pub returns-then-not-more-clause-first : goal.returns-then-not-more-clause-first
 returns-then-not-more-clause-first c =
     let more : more_at true c.args.bytes.now ≡ Ok (false, c.in-Ok.rest.now) = cc (c.in-Ok.ensures) in
     ended_of (plain_entry c.args.format) c.args.bytes.now c.in-Ok.rest.now more
 
-pub returns-in_default-entry_at-clause-first : goal.returns-in_default-entry_at-clause-first
-returns-in_default-entry_at-clause-first c =
+pub unreachable-requires-in_default-entry_at : goal.unreachable-requires-in_default-entry_at
+unreachable-requires-in_default-entry_at c =
     let more : more_at true c.args.bytes.now ≡ Ok (true, c.in-Ok.rest.now) = cc (c.in-Ok.ensures) in
-    absurd (item_of (plain_entry c.args.format) (plain_entry_exact c.args.format) c.args.bytes.now c.in-Ok.rest.now c.in_default-entry_at.field-0.left (λ i. omega (arith, c.type_inv.bytes i)) c.requires more c.in_default-entry_at.ensures)
+    item_of (plain_entry c.args.format) (plain_entry_exact c.args.format) c.args.bytes.now c.in-Ok.rest.now c.in_default-entry_at.field-0.left (λ i. omega (arith, c.type_inv.bytes i)) c.requires more c.in_default-entry_at.ensures
 
 pub returns-clause-first : goal.returns-clause-first
 returns-clause-first c =

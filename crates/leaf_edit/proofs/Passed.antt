@@ -1,11 +1,11 @@
 -- Records passed before a change.
-use Rattle.std.proofs.Common.{◌≡◌, ℕ, ◌+◌, ◌-◌, ◌<◌, ◌≤◌, ◌^◌, true, List, [], ◌∷◌, ◌++◌, length, take, Option, Some, None, refl, sym, ap, subst, ◌∙◌, arith, append_assoc}
+use Rattle.std.proofs.Common.{◌≡◌, ℕ, ◌+◌, ◌-◌, ◌<◌, ◌≤◌, ◌^◌, true, List, [], ◌∷◌, ◌++◌, length, take, drop, Option, Some, None, refl, sym, ap, subst, ◌∙◌, arith, append_assoc}
 use Rattle.std.specs.Prelude.{IsTrue, vec_len}
 use Rattle.std.specs.Global.{Vec}
 use Rattle.std.specs.List.{AllByRecursion}
 use Rattle.std.specs.Option.{option_to_list, SomeIff}
 use Rattle.std.specs.Vec.{vec_capacity}
-use Rattle.std.proofs.lemmas.List.{length-append}
+use Rattle.std.proofs.lemmas.List.{length-append, take-append-drop}
 use Rattle.db_base.specs.Change.{key_of}
 use Rattle.byte_format.specs.Adds.{Adds}
 use Rattle.byte_format.specs.Order.{bytes_below}
@@ -63,6 +63,19 @@ pub run-front : (key : List ℕ) (es front rest : List Entry) (bytes last : List
     → bytes ≡ run_bytes front ++ last
 run-front key es front rest bytes last h is_bytes is_last =
     is_bytes ∙ (records-spelled None es ∙ (ap entries_bytes h.is ∙ (run-before front rest ∙ ap (λ l. run_bytes front ++ l) (sym (is_last ∙ records-spelled None rest)))))
+
+pub taken-front : (n : ℕ) (es : List Entry) (bytes last : List ℕ) → bytes ≡ records_spelling 2 es → last ≡ records_spelling 2 (drop n es)
+    → bytes ≡ run_bytes (take n es) ++ last
+taken-front n es bytes last is_bytes is_last =
+    is_bytes ∙ (records-spelled None es ∙ (ap entries_bytes (sym (take-append-drop n es)) ∙ (run-before (take n es) (drop n es) ∙ ap (λ l. run_bytes (take n es) ++ l) (sym (is_last ∙ records-spelled None (drop n es))))))
+
+run-ended : (front : List Entry) → run_bytes front ++ 0 ∷ [] ≡ entries_bytes front
+run-ended [] = refl
+run-ended (e ∷ front) = append_assoc (entry_bytes e) (run_bytes front) (0 ∷ []) ∙ ap (λ l. entry_bytes e ++ l) (run-ended front)
+
+pub front-added : (out mid bytes : List ℕ) (front : List Entry) → mid ≡ out ++ bytes → bytes ≡ run_bytes front → mid ++ 0 ∷ [] ≡ out ++ entries_bytes front
+front-added out mid bytes front added is =
+    ap (λ l. l ++ 0 ∷ []) added ∙ (append_assoc out bytes (0 ∷ []) ∙ ap (λ l. out ++ l) (ap (λ l. l ++ 0 ∷ []) is ∙ run-ended front))
 
 -- ---- a step behind them
 

@@ -1,17 +1,18 @@
 //! A leaf cut in two.
 
-ghost use Rattle.std.specs.Prelude.{◌≡◌, [], ◌++◌, ◌<◌, ◌≤◌, ◌-◌, IfErr, IfOk, length, MatchOption, OnOk, take, drop};
+ghost use Rattle.std.specs.Prelude.{◌≡◌, [], ◌++◌, ◌<◌, ◌≤◌, ◌-◌, IfErr, IfOk, IfSome, length, MatchOption, OnOk, take, drop};
 ghost use Rattle.db_base.specs.Key.{IsKey};
 ghost use Rattle.leaf_view.specs.Leaf.{IsLeaf};
 ghost use Rattle.leaf_view.specs.Fits.{IsVersion};
 ghost use Rattle.leaf_view.specs.Shown.{shown};
 ghost use Rattle.leaf_edit.specs.Cut.{first_key, left_part, right_part, TakesNone, TakesOne};
 ghost use Rattle.leaf_edit.specs.Merging.{AreRecords};
-ghost use Rattle.leaf_edit.specs.Spelled.{dones_before, entries_bytes};
+ghost use Rattle.leaf_edit.specs.Spelled.{dones_before, entries_bytes, run_bytes};
 
 use crate::buffer::LeafBuf;
+use crate::passing::before;
 use crate::spell::{right_of, try_add_done, try_add_entry, try_add_fields};
-use byte_format::try_add_u8;
+use byte_format::{try_add, try_add_u8};
 use db_base::ids::PageId;
 use db_base::pair::EditFault;
 use leaf_view::{DoneList, LeafView, Records};
@@ -46,8 +47,31 @@ fn skip<'a>(records: Records<'a>, n: usize) -> Records<'a>
     left
 }
 
+/// The bytes of the first n records, where the leaf is of format 2.
+fn front_of<'a>(records: &Records<'a>, n: usize) -> Option<&'a [u8]>
+    ensures { IfSome result (λ bytes. bytes.now ≡ run_bytes (take n records.now)) }
+{
+    let bytes = records.spelling()?;
+    let last = skip(records.again(), n).spelling()?;
+    Some(before(bytes, last))
+}
+
 /// Appends the first n records as a list.
 fn add_front<'a>(out: &mut Vec<u8>, records: Records<'a>, n: usize) -> Result<(), AllocError>
+    requires { AreRecords records }
+    ensures { OnOk result (out.new.items ≡ out.old.items ++ entries_bytes (take n records.entry)) }
+{
+    match front_of(&records, n) {
+        Some(bytes) => {
+            try_add(out, bytes)?;
+            try_add_u8(out, 0)
+        }
+        None => add_each_front(out, records, n),
+    }
+}
+
+/// The same, a record at a time.
+fn add_each_front<'a>(out: &mut Vec<u8>, records: Records<'a>, n: usize) -> Result<(), AllocError>
     requires { AreRecords records }
     ensures { OnOk result (out.new.items ≡ out.old.items ++ entries_bytes (take n records.entry)) }
 {
@@ -147,6 +171,17 @@ fn right_leaf(alloc: Global, leaf: &LeafView<'_>, n: usize) -> Result<LeafBuf, A
 
 /// Appends the records as a list.
 fn add_rest<'a>(out: &mut Vec<u8>, records: Records<'a>) -> Result<(), AllocError>
+    requires { AreRecords records }
+    ensures { OnOk result (out.new.items ≡ out.old.items ++ entries_bytes records.entry) }
+{
+    match records.spelling() {
+        Some(bytes) => try_add(out, bytes),
+        None => add_each_rest(out, records),
+    }
+}
+
+/// The same, a record at a time.
+fn add_each_rest<'a>(out: &mut Vec<u8>, records: Records<'a>) -> Result<(), AllocError>
     requires { AreRecords records }
     ensures { OnOk result (out.new.items ≡ out.old.items ++ entries_bytes records.entry) }
 {

@@ -25,7 +25,7 @@ fn from_key<'a>(records: Records<'a>, key: &[u8]) -> Records<'a>
 }
 
 /// The bytes before their last ones.
-fn before<'a>(bytes: &'a [u8], last: &[u8]) -> &'a [u8]
+pub(crate) fn before<'a>(bytes: &'a [u8], last: &[u8]) -> &'a [u8]
     ensures { (front : List ℕ) → bytes.now ≡ front ++ last.now → result.now ≡ front }
 {
     let (front, _) = bytes.split_at(bytes.len().saturating_sub(last.len()));

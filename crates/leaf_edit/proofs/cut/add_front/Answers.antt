@@ -1,8 +1,9 @@
-use Rattle.leaf_view.specs.Shown.{shown}
-use Rattle.leaf_edit.proofs.CutFits.{front-step}
+use Rattle.std.proofs.Common.{◌≡◌, ℕ, List, take, subst}
+use Rattle.std.specs.Prelude.{OnOk}
+use Rattle.leaf_edit.proofs.Passed.{front-added}
 use Rattle.leaf_edit.proofs.cut.add_front.Goals as goal
 
-pub loop-key-preserved : goal.loop-key-preserved
-loop-key-preserved c =
-    front-step _ _ _ c.loop-key.more _ _ (shown (c.in-Some.key, c.in-Some.payload, c.in-Some.attr)) _ c.again.ensures c.in-Some.ensures c.loop-key.invariant.0
-    c.loop-key.invariant.1 c.in_ok-try_add_entry.ensures
+pub returns-in_ok-try_add-in-Some : goal.returns-in_ok-try_add-in-Some
+returns-in_ok-try_add-in-Some c =
+    let P : List ℕ → Type 0 = λ bytes. OnOk c.try_add_u8.result (c.try_add_u8.new.out.items ≡ bytes) in
+    subst P (front-added c.args.out.now.items _ c.in-Some.bytes.now (take c.args.n c.args.records) c.in_ok-try_add-in-Some.ensures c.in-Some.ensures) c.try_add_u8.ensures

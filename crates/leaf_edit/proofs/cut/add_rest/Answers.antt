@@ -1,9 +1,9 @@
-use Rattle.std.proofs.Common.{sym, ◌∙◌}
-use Rattle.leaf_view.specs.Shown.{shown}
-use Rattle.leaf_edit.proofs.CutFits.{rest-step}
+use Rattle.std.proofs.Common.{◌≡◌, ℕ, List, ◌++◌, subst}
+use Rattle.std.specs.Prelude.{OnOk}
+use Rattle.leaf_edit.proofs.Passed.{all-bytes}
 use Rattle.leaf_edit.proofs.cut.add_rest.Goals as goal
 
-pub loop-key-preserved : goal.loop-key-preserved
-loop-key-preserved c =
-    rest-step _ _ _ _ (shown (c.in-Some.key, c.in-Some.payload, c.in-Some.attr)) _ (sym c.again.ensures ∙ c.in-Some.ensures) c.loop-key.invariant.0
-    c.loop-key.invariant.1 c.in_ok-try_add_entry.ensures
+pub returns-in-Some : goal.returns-in-Some
+returns-in-Some c =
+    let P : List ℕ → Type 0 = λ bytes. OnOk c.try_add.result (c.try_add.new.out.items ≡ c.args.out.now.items ++ bytes) in
+    subst P (all-bytes c.args.records c.in-Some.bytes.now c.in-Some.ensures) c.try_add.ensures

@@ -1,7 +1,7 @@
 use Rattle.std.proofs.Common.{◌≡◌, ◌++◌, take}
 use Rattle.leaf_edit.specs.Merging.{AreRecords}
 use Rattle.leaf_edit.specs.Spelled.{entries_bytes}
-use Rattle.leaf_edit.proofs.cut.add_front.Given as goal
+use Rattle.leaf_edit.proofs.cut.add_each_front.Given as goal
 
 abbrev pub invariant-loop-key : goal.invariant-loop-key
 invariant-loop-key l =

@@ -1,7 +1,7 @@
 use Rattle.std.proofs.Common.{◌≡◌, ◌++◌, length}
 use Rattle.leaf_edit.specs.Merging.{AreRecords}
 use Rattle.leaf_edit.specs.Spelled.{entries_bytes}
-use Rattle.leaf_edit.proofs.cut.add_rest.Given as goal
+use Rattle.leaf_edit.proofs.cut.add_each_rest.Given as goal
 
 abbrev pub invariant-loop-key : goal.invariant-loop-key
 invariant-loop-key l = AreRecords l.left × (l.out.items ++ entries_bytes l.left ≡ l.initial.out.items ++ entries_bytes l.initial.left)

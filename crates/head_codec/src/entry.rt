@@ -2,9 +2,12 @@
 
 ghost use Rattle.std.specs.Prelude.{◌≡◌, ◌<◌, ◌^◌, ◌∷◌, ◌++◌, None, IfOk, OnOk};
 ghost use Rattle.std.specs.Int.{w64, to_be_bytes};
+ghost use Rattle.db_base.specs.Change.{key_of};
 ghost use Rattle.head_codec.specs.Pending.{pending_entry, FitsPending};
+ghost use Rattle.head_codec.specs.Slot.{slot_of};
 
 use crate::lists::Pending;
+use crate::slot::slot_of;
 use byte_format::try_add;
 use change_codec::add_change;
 use db_base::blob::Blob;
@@ -12,10 +15,12 @@ use db_base::change::Change;
 use std::alloc::{AllocError, Global};
 use std::marker::Model;
 
-/// A pending entry with its spelling, which is made once: each head that holds it is written by a copy.
+/// A pending entry with its slot and its spelling, which are made once: each head that holds it is written by a copy.
 #[derive(Debug)]
 pub struct Entry {
     pending: Pending,
+    // The slot of its key.
+    slot: usize,
     // The byte that says that an entry follows, and the entry.
     spelled: Blob,
 }
@@ -24,21 +29,25 @@ impl Drop for Entry {
     fn drop(self) {
         let Entry {
             pending: _,
+            slot: _,
             spelled: _,
         } = self;
     }
 }
 
 impl Model for Entry {
-    ghost use Rattle.std.specs.Prelude.{◌≡◌, ◌∷◌, None};
+    ghost use Rattle.std.specs.Prelude.{◌≡◌, ◌<◌, ◌∷◌, None};
+    ghost use Rattle.db_base.specs.Change.{key_of};
     ghost use Rattle.head_codec.specs.declared.lists.Pending.{Pending as Listed};
     ghost use Rattle.head_codec.specs.Pending.{pending_entry, FitsPending};
+    ghost use Rattle.head_codec.specs.Slot.{slot_of};
 
     ghost Value = { Listed };
 
     ghost view = { λ e. e.pending };
 
-    ghost invariant = { λ e. (e.spelled ≡ 1 ∷ (pending_entry None).spelling e.pending) × FitsPending e.pending };
+    ghost invariant = { λ e. (e.spelled ≡ 1 ∷ (pending_entry None).spelling e.pending) × (FitsPending e.pending
+        × ((e.slot ≡ slot_of (key_of e.pending.change)) × (e.slot < 4096))) };
 }
 
 // How many bytes stand before the key of an entry: one ahead, the tree, the page, the number, the change's kind, the key's length.
@@ -89,14 +98,16 @@ fn add_entry(out: &mut Vec<u8>, entry: &Pending) -> Result<(), AllocError>
 }
 
 impl Entry {
-    /// The entry, spelled here once for all heads that hold it. Fails for memory alone.
+    /// The entry, its slot found and spelled here once for all heads that hold it. Fails for memory alone.
     pub fn of(alloc: Global, pending: Pending) -> Result<Entry, AllocError>
         ensures { IfOk result (λ e. e ≡ pending) }
     {
         let mut spelled = Vec::with_capacity(alloc, room_for(&pending.change))?;
         add_entry(&mut spelled, &pending)?;
+        let slot = slot_of(pending.change.key().as_slice());
         Ok(Entry {
             pending,
+            slot,
             spelled: Blob::of(spelled),
         })
     }
@@ -106,6 +117,14 @@ impl Entry {
         ensures { result.now ≡ self.now }
     {
         &self.pending
+    }
+
+    /// The slot of its key: entries of different slots are of different keys.
+    pub fn slot(&self) -> usize
+        ensures slot { result ≡ slot_of (key_of self.now.change) }
+        ensures within { result < 4096 }
+    {
+        self.slot
     }
 
     /// The spelling of the entry, behind the byte that says that one follows.

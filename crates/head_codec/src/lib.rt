@@ -8,3 +8,4 @@ pub mod head;
 pub mod laws;
 pub mod lists;
 mod pending;
+pub mod slot;

@@ -11,7 +11,8 @@ use Rattle.std.proofs.lemmas.Option.{slice_get_cases, slice_get_within}
 use Rattle.std.proofs.lemmas.Slice.Eq.{bytes_eq-Decides}
 use Rattle.db_base.specs.Change.{key_of}
 use Rattle.head_codec.specs.declared.lists.Pending.{Pending}
-use Rattle.route_plan.specs.Index.{slot_of, entry_upto, Leads, IsIndex, IsTable}
+use Rattle.head_codec.specs.Slot.{slot_of}
+use Rattle.route_plan.specs.Index.{entry_upto, Leads, IsIndex, IsTable}
 use Rattle.route_plan.specs.Queue.{is_pending_of, last_pending}
 
 -- ---- one entry more

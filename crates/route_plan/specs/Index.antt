@@ -1,16 +1,9 @@
 -- An index of pending entries by key: a hash table whose chains lead from newer entries to older ones.
-use Rattle.std.specs.Prelude.{◌≡◌, ℕ, zero, suc, ◌+◌, ◌*◌, ◌%◌, ◌<◌, ◌≤◌, List, [], ◌∷◌, length, take, slice_get, slice_index, Option, Some, None}
+use Rattle.std.specs.Prelude.{◌≡◌, ℕ, zero, suc, ◌<◌, ◌≤◌, List, length, take, slice_get, slice_index, Option, Some, None}
 use Rattle.db_base.specs.Change.{key_of}
 use Rattle.head_codec.specs.declared.lists.Pending.{Pending}
+use Rattle.head_codec.specs.Slot.{slot_of}
 use Rattle.route_plan.specs.Queue.{last_pending}
-
--- the slot of a key
-abbrev pub slot_from : ℕ → List ℕ → ℕ
-slot_from slot [] = slot
-slot_from slot (byte ∷ bytes) = slot_from ((slot * 31 + byte) % 4096) bytes
-
-unfoldable pub slot_of : List ℕ → ℕ
-slot_of key = slot_from 0 key
 
 -- the last of the first so many entries
 abbrev pub entry_upto : List Pending → ℕ → Option Pending

@@ -2,14 +2,14 @@
 
 ghost use Rattle.std.specs.Prelude.{◌≡◌, ◌+◌, ◌≤◌, ◌<◌, ◌==◌, ℕ, length, slice_get, slice_index, if◌then◌else◌, IfSome, OnOk};
 ghost use Rattle.std.specs.Option.{option_copied};
-ghost use Rattle.route_plan.specs.Index.{entry_upto, slot_of, IsTable};
-ghost use Rattle.route_plan.specs.Queue.{is_pending_of, last_pending};
+ghost use Rattle.route_plan.specs.Index.{entry_upto, IsTable};
+ghost use Rattle.route_plan.specs.Queue.{last_pending};
 
+use crate::queue::is_of;
 use db_base::ids::TreeId;
 use head_codec::entry::Entry;
+use head_codec::slot::{SLOTS, slot_of};
 use std::alloc::{AllocError, Global};
-
-const SLOTS: usize = 4096;
 
 /// A hash table of the keys of pending entries, whose chains lead from newer entries to older ones.
 pub(crate) struct SlotTable {
@@ -26,29 +26,6 @@ impl Drop for SlotTable {
             before: _,
         } = self;
     }
-}
-
-/// The slot of a key.
-#[tactic(auto, unfolding(crate::specs::Index::slot_of))]
-fn slot_of(key: &[u8]) -> usize
-    ensures slot { result ≡ slot_of key.now }
-    ensures within { result < 4096 }
-{
-    let mut slot: usize = 0;
-    let mut left = key;
-    while let Some((byte, rest)) = left.split_first() {
-        slot = (slot * 31 + *byte as usize) % SLOTS;
-        left = rest;
-    }
-    slot
-}
-
-/// Whether an entry is of a tree and key.
-fn is_of(entry: &Entry, tree: TreeId, key: &[u8]) -> bool
-    ensures { result ≡ is_pending_of tree key.now entry.now }
-{
-    let entry = entry.get();
-    entry.tree.get() == tree.get() && entry.change.key().as_slice() == key
 }
 
 /// The entry at an index.
@@ -101,7 +78,7 @@ impl SlotTable {
         let mut newest: Vec<usize> = Vec::from_elem(alloc, 0, SLOTS)?;
         let mut before: Vec<usize> = Vec::new(alloc);
         while let Some(entry) = entry_at(pending, before.len()) {
-            let slot = slot_of(entry.get().change.key().as_slice());
+            let slot = entry.slot();
             let older = newest[slot];
             push(&mut before, older)?;
             let upto = before.len();
@@ -144,7 +121,7 @@ fn last_in<'a>(
     let slot = slot_of(key);
     let mut upto = newest[slot];
     while let Some(entry) = entry_upto(pending, upto) {
-        if is_of(entry, tree, key) {
+        if is_of(entry, tree, key, slot) {
             return Some(entry);
         }
         let at = upto - 1;

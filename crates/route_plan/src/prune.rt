@@ -34,7 +34,19 @@ fn most_done(view: &LeafView<'_>, client: ClientId) -> [u64; 64]
     most
 }
 
-/// Whether a leaf shows the client's entry to be applied. Most entries are told by their class: their keys are not looked at.
+/// Whether a leaf shows the client's entry to be applied.
+// Apart from the test that most entries end with, which thereby stays in the loop over them.
+#[inline(never)]
+fn is_shown(view: &LeafView<'_>, client: ClientId, tree: TreeId, entry: &Entry) -> bool
+    ensures { result ≡ is_applied_in view.now client tree entry.now }
+{
+    let entry = entry.get();
+    entry.tree.get() == tree.get()
+        && view.holds(entry.change.key().as_slice())
+        && entry.number <= view.done(entry.page, client)
+}
+
+/// The same. Most entries are told by their class: their keys are not looked at.
 fn is_applied_in(
     view: &LeafView<'_>,
     client: ClientId,
@@ -45,13 +57,11 @@ fn is_applied_in(
     requires { AreMost view.now.done client most.now }
     ensures { result ≡ is_applied_in view.now client tree entry.now }
 {
-    let entry = entry.get();
-    if most[(entry.page % CLASSES) as usize] < entry.number {
+    let pending = entry.get();
+    if most[(pending.page % CLASSES) as usize] < pending.number {
         return false;
     }
-    entry.tree.get() == tree.get()
-        && view.holds(entry.change.key().as_slice())
-        && entry.number <= view.done(entry.page, client)
+    is_shown(view, client, tree, entry)
 }
 
 /// Whether a root shows the client's entry to be applied.

@@ -1,5 +1,6 @@
 -- The format of a head's pending entries.
-use Rattle.std.specs.Prelude.{ℕ, ◌<◌, ◌^◌, true, List, Option, None}
+use Rattle.std.specs.Prelude.{◌≡◌, ℕ, ◌<◌, ◌^◌, true, List, [], ◌∷◌, ◌++◌, Option, None}
+use Rattle.std.specs.List.{AllByRecursion}
 use Rattle.std.specs.Int.{w8}
 use Rattle.db_base.specs.Change.{IsChange}
 use Rattle.db_base.specs.Ids.{IsTree}
@@ -33,3 +34,13 @@ pub record FitsPending (p : Pending) : Type 0 where
   pub page : p.page < 2 ^ 64
   pub number : p.number < 2 ^ 64
   pub change : IsChange p.change
+
+-- the spellings of pending entries, one behind the other, each behind the byte that says that one follows
+abbrev pub spellings : List Pending → List ℕ
+spellings [] = []
+spellings (p ∷ pending) = (1 ∷ (pending_entry None).spelling p) ++ spellings pending
+
+-- bytes are the spellings of pending entries
+pub record AreSpelled (pending : List Pending) (bytes : List ℕ) : Type 0 where
+  pub spelling : bytes ≡ spellings pending
+  pub fits : AllByRecursion FitsPending pending

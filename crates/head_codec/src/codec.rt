@@ -65,7 +65,7 @@ fn front_head(alloc: Global, bytes: &[u8]) -> Result<(Head, &[u8]), ReadFault>
             txn,
             phase,
             counters: CounterList::of(counters),
-            pending: PendingList::of(pending),
+            pending: PendingList::of(alloc, pending),
         },
         rest,
     ))
@@ -103,7 +103,7 @@ fn add_head(out: &mut Vec<u8>, of: &Head) -> Result<(), AllocError>
     try_add_u64(out, of.txn)?;
     add_phase(out, of.phase)?;
     add_counters(out, of.counters.as_slice())?;
-    add_pending(out, of.pending.as_slice())?;
+    of.pending.add_to(out)?;
     Ok(())
 }
 

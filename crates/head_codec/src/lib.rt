@@ -8,4 +8,5 @@ pub mod head;
 pub mod laws;
 pub mod lists;
 mod pending;
+pub mod pending_list;
 pub mod slot;

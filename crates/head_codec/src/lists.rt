@@ -1,4 +1,4 @@
-use crate::entry::Entry;
+pub use crate::pending_list::PendingList;
 use db_base::change::Change;
 use db_base::ids::TreeId;
 use db_base::sequence::Sequence;
@@ -40,6 +40,3 @@ impl Drop for Pending {
 
 /// The counters of a head, ascending by tree and page.
 pub type CounterList = Sequence<QueueCount>;
-
-/// The pending entries of a head, in the order of commit.
-pub type PendingList = Sequence<Entry>;

@@ -5,7 +5,7 @@ ghost use Rattle.std.specs.List.{AllByRecursion};
 ghost use Rattle.std.specs.Option.{option_copied};
 ghost use Rattle.byte_format.specs.Format.{list_spelling};
 ghost use Rattle.byte_format.specs.Gives.{GivesOwned};
-ghost use Rattle.head_codec.specs.Pending.{pending_entry, FitsPending};
+ghost use Rattle.head_codec.specs.Pending.{pending_entry, spellings, FitsPending};
 
 use crate::entry::Entry;
 use crate::lists::Pending;
@@ -41,9 +41,9 @@ impl OwnedRules for PendingRules {
     }
 }
 
-/// Appends the spelling of pending entries, which each of them keeps.
-pub fn add_pending(out: &mut Vec<u8>, entries: &[Entry]) -> Result<(), AllocError>
-    ensures spelling { OnOk result (out.new.items ≡ out.old.items ++ list_spelling pending_entry None entries.now) }
+/// Appends the spellings of pending entries, which each of them keeps, one behind the other.
+pub(crate) fn add_entries(out: &mut Vec<u8>, entries: &[Entry]) -> Result<(), AllocError>
+    ensures spelling { OnOk result (out.new.items ≡ out.old.items ++ spellings entries.now) }
     ensures valid { OnOk result (AllByRecursion FitsPending entries.now) }
 {
     let mut left = entries;
@@ -51,5 +51,15 @@ pub fn add_pending(out: &mut Vec<u8>, entries: &[Entry]) -> Result<(), AllocErro
         try_add(out, entry.spelled())?;
         left = rest;
     }
-    try_add_u8(out, 0)
+    Ok(())
+}
+
+/// Appends the spelling of pending entries.
+pub fn add_pending(out: &mut Vec<u8>, entries: &[Entry]) -> Result<(), AllocError>
+    ensures spelling { OnOk result (out.new.items ≡ out.old.items ++ list_spelling pending_entry None entries.now) }
+    ensures valid { OnOk result (AllByRecursion FitsPending entries.now) }
+{
+    add_entries(out, entries)?;
+    try_add_u8(out, 0)?;
+    Ok(())
 }

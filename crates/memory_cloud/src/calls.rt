@@ -78,6 +78,7 @@ impl Store {
         }
     }
 
+    #[inline(never)]
     fn get_old(&mut self, name: &ObjName, n: u64) -> Result<Option<Blob>, CloudFault>
         requires { (store_counts self.old).stale < greatest }
         ensures { Meets (Mood.Old n) (Get name.now) (got_answer result) self.old self.new }
@@ -119,6 +120,7 @@ impl Store {
         }
     }
 
+    #[inline(never)]
     fn get_held_lost(&mut self, name: &ObjName, lease: &Lease) -> Result<Option<Blob>, HeldFault>
         requires { (store_counts self.old).faults < greatest }
         ensures { Meets Lost (GetHeld name.now lease.now) (held_got result) self.old self.new }
@@ -166,6 +168,7 @@ impl Store {
         }
     }
 
+    #[inline(never)]
     fn put_held_lost(
         &mut self,
         who: Who,
@@ -226,6 +229,7 @@ impl Store {
         }
     }
 
+    #[inline(never)]
     fn list_held_lost(&mut self, _tree: TreeId, lease: &Lease) -> Result<Vec<PageId>, HeldFault>
         requires { (store_counts self.old).faults < greatest }
         ensures { Meets Lost (ListHeld _tree lease.now) (held_listed result) self.old self.new }
@@ -271,6 +275,7 @@ impl Store {
         }
     }
 
+    #[inline(never)]
     fn remove_held_lost(&mut self, who: Who, name: &ObjName, lease: &Lease) -> Result<(), HeldFault>
         requires { (store_counts self.old).faults < greatest }
         ensures { MeetsBy who Lost (RemoveHeld name.now lease.now) (held_done result) self.old self.new }
@@ -323,6 +328,7 @@ impl Store {
         }
     }
 
+    #[inline(never)]
     fn send_lost(&mut self, who: Who, queue: &QueueName, bytes: &[u8]) -> Result<MsgId, CloudFault>
         requires { (store_counts self.old).faults < greatest }
         ensures { MeetsBy who Lost (Send queue.now bytes.now) (sent_answer result) self.old self.new }
@@ -363,6 +369,7 @@ impl Store {
         }
     }
 
+    #[inline(never)]
     fn receive_chosen(&mut self, queue: &QueueName, max: u16) -> Result<Vec<Message>, CloudFault>
         requires { (store_counts self.old).withheld < greatest }
         ensures { Meets Mood.Give (Receive queue.now max) (received_answer result) self.old self.new }
@@ -430,6 +437,7 @@ impl Store {
         }
     }
 
+    #[inline(never)]
     fn take_lost(&mut self, lock: &Lock, ticks: u64) -> Result<Grant, CloudFault>
         requires { (store_counts self.old).faults < greatest }
         ensures { Meets Lost (Take lock.now ticks) (taken_answer result) self.old self.new }
@@ -453,6 +461,7 @@ impl Store {
     }
 
     // A take of a lock that was never taken, or is not free.
+    #[inline(never)]
     fn take_anew(&mut self, lock: &Lock, ticks: u64) -> Result<Grant, CloudFault>
         ensures { Meets Plain (Take lock.now ticks) (taken_answer result) self.old self.new }
     {
@@ -521,6 +530,7 @@ impl Store {
         }
     }
 
+    #[inline(never)]
     fn renew_lost(&mut self, lease: &mut Lease, ticks: u64) -> Result<(), HeldFault>
         requires { (store_counts self.old).faults < greatest }
         ensures obeys { Meets Lost (Renew lease.old ticks) (renewal lease.new result) self.old self.new }

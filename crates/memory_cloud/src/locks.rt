@@ -159,6 +159,7 @@ fn move_numbered(holds: &mut Vec<Hold>, number: u64, generation: u64, until: u64
 
 // ---- by name
 
+#[inline(never)]
 fn named(holds: &BTreeMap<Lock, Hold>, lock: &Lock) -> Hold
     ensures { result ≡ named_hold holds.now lock.now }
 {
@@ -168,6 +169,7 @@ fn named(holds: &BTreeMap<Lock, Hold>, lock: &Lock) -> Hold
     }
 }
 
+#[inline(never)]
 fn set_named(holds: &mut BTreeMap<Lock, Hold>, lock: &Lock, hold: Hold) -> Result<(), AllocError>
     ensures { (q : Lock) → named_hold holds.new q ≡ changed_at lock_cmp (named_hold holds.old) lock.now (kept_of result hold) q }
 {
@@ -175,6 +177,7 @@ fn set_named(holds: &mut BTreeMap<Lock, Hold>, lock: &Lock, hold: Hold) -> Resul
     Ok(())
 }
 
+#[inline(never)]
 fn give_named(holds: &mut BTreeMap<Lock, Hold>, lock: &Lock, now: u64, until: u64) -> Option<Hold>
     ensures free { IfSome result (λ hold. is_free (named_hold holds.old lock.now) now ≡ true) }
     ensures hold { IfSome result (λ hold. hold ≡ record { generation = (named_hold holds.old lock.now).generation + 1; until = until }) }
@@ -189,6 +192,7 @@ fn give_named(holds: &mut BTreeMap<Lock, Hold>, lock: &Lock, now: u64, until: u6
     Some(*hold)
 }
 
+#[inline(never)]
 fn move_named(holds: &mut BTreeMap<Lock, Hold>, lock: &Lock, generation: u64, until: u64)
     ensures { (q : Lock) → named_hold holds.new q ≡ moved_by lock_cmp (named_hold holds.old) lock.now generation until q }
 {

@@ -3,7 +3,7 @@ ghost use Rattle.std.specs.Option.{option_copied};
 ghost use Rattle.memory_cloud.specs.Memory.{planter};
 
 use crate::mood::Mood;
-use crate::store::Store;
+use crate::store::{Store, is_plain};
 use crate::{copies, objects, queues};
 use cloud_trait::fault::CloudFault;
 use cloud_trait::who::Who;
@@ -138,6 +138,7 @@ impl MemoryCloud {
     }
 
     // Begins a service call: it spends the wish, and says how the call goes.
+    #[inline]
     pub(crate) fn begin(&mut self, who: Who) -> Mood
         ensures state { state_of self.new ≡ called who (state_of self.old).now (state_of self.old) }
         ensures counts { counts_of self.new ≡ counts_of self.old }
@@ -151,8 +152,21 @@ impl MemoryCloud {
         mood
     }
 
-    // How the service call of the present number goes.
+    // How the service call of the present number goes. Where no call is to fail and no wish is set, nothing is looked for.
+    #[inline]
     fn mood(&self) -> Mood
+        ensures mood { result ≡ mood_at (counts_of self.now) self.now.failing.items self.now.calls self.now.store.wish }
+        ensures room { HasRoom result (counts_of self.now) }
+    {
+        if self.failing.is_empty() && is_plain(&self.store.wish) {
+            return Mood::Plain;
+        }
+        self.mood_within_room()
+    }
+
+    // How it goes: as it is wanted, and else as it should.
+    #[inline(never)]
+    fn mood_within_room(&self) -> Mood
         ensures mood { result ≡ mood_at (counts_of self.now) self.now.failing.items self.now.calls self.now.store.wish }
         ensures room { HasRoom result (counts_of self.now) }
     {

@@ -95,6 +95,7 @@ impl Shared {
     }
 
     /// A copy of the bytes.
+    #[inline(never)]
     pub fn copy(&self, alloc: Global) -> Result<Blob, AllocError>
         ensures { IfOk result (λ b. b ≡ self.now) }
     {

@@ -95,6 +95,7 @@ impl Store {
     }
 
     /// A service call begins, and spends the wish. Where neither it nor the newest one has a wish, only the caller is written.
+    #[inline]
     pub fn spend_wish(&mut self, who: Who)
         ensures state { store_state self.new ≡ called who (store_state self.old).now (store_state self.old) }
         ensures counts { store_counts self.new ≡ store_counts self.old }
@@ -107,6 +108,15 @@ impl Store {
                 }
             }
         }
+        self.spend_any_wish(who);
+    }
+
+    // A service call begins, and spends the wish, whatever it is.
+    #[inline(never)]
+    fn spend_any_wish(&mut self, who: Who)
+        ensures state { store_state self.new ≡ called who (store_state self.old).now (store_state self.old) }
+        ensures counts { store_counts self.new ≡ store_counts self.old }
+    {
         let wish = mem::replace(&mut self.wish, Wish::Plain);
         self.last = Some(Last { who, wish });
     }
@@ -269,8 +279,9 @@ impl Store {
     }
 }
 
-// Whether a wish leaves its call as it is.
-fn is_plain(wish: &Wish) -> bool
+/// Whether a wish leaves its call as it is.
+#[inline]
+pub fn is_plain(wish: &Wish) -> bool
     ensures { IsTrue result → wish.now ≡ Wish.Plain }
 {
     match wish {

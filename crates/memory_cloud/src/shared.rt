@@ -1,4 +1,5 @@
-ghost use Rattle.std.specs.Prelude.{◌≡◌, ◌≢◌, ◌++◌, ℕ, List, IfOk, bytes_eq, MatchOption};
+ghost use Rattle.std.specs.Prelude.{◌≡◌, ◌≢◌, ◌++◌, ℕ, List, IfOk, bytes_eq, length, min, MatchOption};
+ghost use Rattle.cloud_trait.specs.State.{greatest};
 
 use crate::common::{common_back, common_front, end_of};
 use db_base::blob::Blob;
@@ -101,9 +102,7 @@ impl Shared {
     {
         let base = self.base.as_slice();
         let own = self.own.as_slice();
-        let back = base.len() - self.back;
-        let most = self.front.saturating_add(own.len()).saturating_add(back);
-        let mut bytes = Vec::with_capacity(alloc, most)?;
+        let mut bytes = Vec::with_capacity(alloc, self.len())?;
         bytes.extend_from_slice(&base[..self.front])?;
         bytes.extend_from_slice(&own[..self.split])?;
         bytes.extend_from_slice(&base[self.back..])?;
@@ -111,8 +110,28 @@ impl Shared {
         Ok(Blob::of(bytes))
     }
 
-    /// Whether they are these bytes. Takes no memory.
+    // How many they are.
+    fn len(&self) -> usize
+        ensures { result ≡ min (length self.now) greatest }
+    {
+        let back = self.base.len() - self.back;
+        self.front
+            .saturating_add(self.own.len())
+            .saturating_add(back)
+    }
+
+    /// Whether they are these bytes: as many, and part by part the same. Takes no memory.
     pub fn is(&self, bytes: &[u8]) -> bool
+        ensures { result ≡ bytes_eq self.now bytes.now }
+    {
+        if self.len() != bytes.len() {
+            return false;
+        }
+        self.is_by_parts(bytes)
+    }
+
+    // Whether they are these bytes, part by part.
+    fn is_by_parts(&self, bytes: &[u8]) -> bool
         ensures { result ≡ bytes_eq self.now bytes.now }
     {
         let base = self.base.as_slice();

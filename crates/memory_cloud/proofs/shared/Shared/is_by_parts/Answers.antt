@@ -1,7 +1,7 @@
 use Rattle.std.proofs.Common.{rules, ◌≡◌, ◌++◌, ◌-◌, ◌∙◌, length, take, drop, bytes_eq}
 use Rattle.std.proofs.lemmas.List.{take_rest}
 use Rattle.memory_cloud.proofs.SharingLemmas.{second_differs, third_differs, last_tells}
-use Rattle.memory_cloud.proofs.shared.Shared.is.Goals as goal
+use Rattle.memory_cloud.proofs.shared.Shared.is_by_parts.Goals as goal
 
 pub returns-in_default-behind : goal.returns-in_default-behind
 returns-in_default-behind c =

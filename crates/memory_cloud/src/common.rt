@@ -1,4 +1,5 @@
 ghost use Rattle.std.specs.Prelude.{◌≡◌, ◌≤◌, ◌<◌, ◌+◌, ◌-◌, length, take, drop, IsTrue};
+ghost use Rattle.std.specs.Int.{w64, to_le_bytes};
 ghost use Rattle.memory_cloud.specs.Ends.{SameEnd, SameBefore};
 
 /// How many bytes of the end of a base are looked for.
@@ -61,7 +62,29 @@ fn same_ahead(first: &[u8], second: &[u8], at: usize, size: usize) -> bool
     }
     let (_, first) = first.split_at(at);
     let (_, second) = second.split_at(at);
-    &first[..size] == &second[..size]
+    are_same(&first[..size], &second[..size])
+}
+
+// Whether two slices are the same. Eight bytes are compared as one number, with no call.
+#[inline]
+fn are_same(first: &[u8], second: &[u8]) -> bool
+    ensures { IsTrue result → first.now ≡ second.now }
+{
+    if first.len() == 8 && second.len() == 8 {
+        return word(first) == word(second);
+    }
+    first == second
+}
+
+// The number that eight bytes spell.
+#[inline]
+fn word(bytes: &[u8]) -> u64
+    requires { length bytes.now ≡ 8 }
+    ensures { to_le_bytes w64 result ≡ bytes.now }
+{
+    u64::from_le_bytes([
+        bytes[0], bytes[1], bytes[2], bytes[3], bytes[4], bytes[5], bytes[6], bytes[7],
+    ])
 }
 
 // Goes on from a back in common, by so many bytes at a time.
@@ -94,7 +117,10 @@ fn same_behind(first: &[u8], second: &[u8], back: usize, size: usize) -> bool
     if first_end < size || second_end < size {
         return false;
     }
-    &first[first_end - size..first_end] == &second[second_end - size..second_end]
+    are_same(
+        &first[first_end - size..first_end],
+        &second[second_end - size..second_end],
+    )
 }
 
 /// Where a base ends in bytes: before their last one, or else near a place. It is a guess, by the last bytes of the base, and the end of the bytes

@@ -1,5 +1,5 @@
 -- What a tree checkpoint asks where it stands, and the leases that it holds there.
-use Rattle.std.specs.Prelude.{ℕ, List, [], ◌∷◌, Option, Some, None}
+use Rattle.std.specs.Prelude.{ℕ, Bool, true, false, List, [], ◌∷◌, Option, Some, None}
 use Rattle.db_base.specs.Limits.{page_ticks, tree_ticks, most_received}
 use Rattle.db_base.specs.declared.names.Lock.TheVariants as lock
 use Rattle.db_base.specs.declared.names.ObjName.TheVariants as object
@@ -50,6 +50,23 @@ work_ask tree (Rising h r) = rising_ask r h.lease
 work_ask tree (Deleting h applied) = delete_ask tree (next_id h.deletions.ids)
 work_ask tree (Releasing held end) = release_ask tree (newest_lease held)
 work_ask tree Finished = take_tree tree
+
+-- whether there is nothing in hand but leases, none that is kept from call to call
+abbrev pub is_bare : Work → Bool
+is_bare TakingTree = true
+is_bare (Releasing held end) = true
+is_bare Finished = true
+is_bare w = false
+
+-- whether the tree object is got next
+abbrev pub is_getting : Work → Bool
+is_getting (GettingTree l) = true
+is_getting w = false
+
+-- whether the queue is received from next
+abbrev pub is_receiving : Work → Bool
+is_receiving (Receiving l root) = true
+is_receiving w = false
 
 -- the items that the put in hand applies, those of a leaf's own put
 abbrev pub applying_in : Work → List PuItem

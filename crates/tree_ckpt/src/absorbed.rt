@@ -1,6 +1,6 @@
 //! Where the answer of each call leads.
 
-ghost use Rattle.std.specs.Prelude.{◌≡◌, [], ◌∷◌};
+ghost use Rattle.std.specs.Prelude.{◌≡◌, [], ◌∷◌, true};
 ghost use Rattle.cloud_trait.specs.Machine.{Next};
 ghost use Rattle.cloud_trait.specs.Views.{given_of};
 ghost use Rattle.tree_phases.specs.Going.{Went};
@@ -9,7 +9,7 @@ ghost use Rattle.tree_phases.specs.declared.folding.Left.{Left};
 ghost use Rattle.tree_phases.specs.Folding.{folding_next};
 ghost use Rattle.tree_phases.specs.Descent.{descent_next};
 ghost use Rattle.tree_phases.specs.Rising.{rising_next};
-ghost use Rattle.tree_ckpt.specs.Work.{claims_in};
+ghost use Rattle.tree_ckpt.specs.Work.{claims_in, is_bare, is_getting, is_receiving};
 ghost use Rattle.tree_ckpt.specs.Moves.{Moves, MovesTo, MovesOn, descending_on, page_taken, folding_on, onward_from, page_left, rising_on, Absorbs};
 
 use crate::ending::{deleted, released};
@@ -178,8 +178,9 @@ fn lead(alloc: Global, tree: TreeId, work: Work, answer: Answer) -> Moved
     }
 }
 
-/// Goes on so.
+/// Goes on so, where nothing has to be let go.
 fn moves_to(place: &mut Work, moved: Moved) -> Turn<CkptAnswer>
+    requires { is_bare place.old ≡ true }
     ensures work { place.new ≡ moved.work }
     ensures turn { result ≡ moved.turn }
 {
@@ -189,6 +190,7 @@ fn moves_to(place: &mut Work, moved: Moved) -> Turn<CkptAnswer>
 }
 
 /// Goes where an answer leads, with what stands taken out for it.
+#[inline(never)]
 fn lead_apart(alloc: Global, tree: TreeId, place: &mut Work, answer: Answer) -> Turn<CkptAnswer>
     ensures { MovesTo (Absorbs tree place.old answer) (claims_in place.old) place.new result }
 {
@@ -197,17 +199,19 @@ fn lead_apart(alloc: Global, tree: TreeId, place: &mut Work, answer: Answer) -> 
 }
 
 /// The same, where the tree object was got.
-fn lead_got(alloc: Global, tree: TreeId, place: &mut Work, answer: Answer) -> Turn<CkptAnswer>
+fn lead_got(tree: TreeId, place: &mut Work, answer: Answer) -> Turn<CkptAnswer>
+    requires { is_getting place.old ≡ true }
     ensures { MovesTo (Absorbs tree place.old answer) (claims_in place.old) place.new result }
 {
     match take(place) {
         Work::GettingTree(lease) => moves_to(place, tree_got(tree, lease, answer.got())),
-        work => moves_to(place, lead(alloc, tree, work, answer)),
+        _ => unreachable!(),
     }
 }
 
 /// The same, where the queue was received from.
 fn lead_received(alloc: Global, tree: TreeId, place: &mut Work, answer: Answer) -> Turn<CkptAnswer>
+    requires { is_receiving place.old ≡ true }
     ensures { MovesTo (Absorbs tree place.old answer) (claims_in place.old) place.new result }
 {
     match take(place) {
@@ -215,7 +219,7 @@ fn lead_received(alloc: Global, tree: TreeId, place: &mut Work, answer: Answer) 
             place,
             received(alloc, tree, lease, root, answer.received()),
         ),
-        work => moves_to(place, lead(alloc, tree, work, answer)),
+        _ => unreachable!(),
     }
 }
 
@@ -225,7 +229,7 @@ fn lead_on(alloc: Global, tree: TreeId, place: &mut Work, answer: Answer) -> Tur
 {
     match place {
         Work::TakingTree => moves_to(place, tree_taken(answer.given(Lock::Tree(tree)))),
-        Work::GettingTree(_) => lead_got(alloc, tree, place, answer),
+        Work::GettingTree(_) => lead_got(tree, place, answer),
         Work::Receiving(_, _) => lead_received(alloc, tree, place, answer),
         Work::Releasing(held, end) => {
             drop_answer(answer);

@@ -4,7 +4,7 @@ ghost use Rattle.std.specs.Prelude.{◌≡◌, [], ◌∷◌, Ok, Some};
 ghost use Rattle.ckpt_parts.specs.Intakes.{TakesIn};
 ghost use Rattle.ckpt_parts.specs.Unless.{UnlessMemory};
 ghost use Rattle.tree_phases.specs.Read.{tree_held};
-ghost use Rattle.tree_ckpt.specs.Moves.{Moves, MovesOn, tree_taken, tree_got, tree_read, chart_of, intake_taken, ReceivedBy};
+ghost use Rattle.tree_ckpt.specs.Moves.{Moves, MovesOn, going, tree_taken, tree_got, tree_read, chart_of, intake_taken, ReceivedBy};
 ghost use Rattle.node_codec.specs.Tree.{tree_of};
 
 use crate::ending::delete_next;
@@ -49,6 +49,7 @@ pub(crate) fn tree_got(tree: TreeId, lease: Lease, got: Result<Option<Blob>, Tro
 }
 
 /// Bytes that spell no tree object are damage.
+#[inline(never)]
 fn tree_read(tree: TreeId, lease: Lease, bytes: Blob) -> Moved
     ensures { MovesOn (tree_read tree lease bytes (tree_of bytes)) (lease ∷ []) result }
 {
@@ -129,6 +130,14 @@ fn taken(
     if run.items().is_empty() {
         return delete_next(held, 0);
     }
+    go_first(alloc, tree, held, root, run)
+}
+
+/// Goes to the first key of a run.
+#[inline(never)]
+fn go_first(alloc: Global, tree: TreeId, held: Held, root: Option<TreeBytes>, run: Run) -> Moved
+    ensures { MovesOn (going held (chart_of tree root run)) (held.lease ∷ []) result }
+{
     go(alloc, held, chart_of(alloc, tree, root, run))
 }
 

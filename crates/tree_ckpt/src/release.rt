@@ -1,7 +1,7 @@
 //! Letting go of what a checkpoint has in hand, each part in one place.
 
-ghost use Rattle.std.specs.Prelude.{◌≡◌};
-ghost use Rattle.tree_ckpt.specs.Work.{one_lease, two_leases};
+ghost use Rattle.std.specs.Prelude.{◌≡◌, true};
+ghost use Rattle.tree_ckpt.specs.Work.{is_bare, one_lease, two_leases};
 
 use crate::work::{Coming, Held, Onward, Work, one_lease, two_leases};
 use ckpt_parts::Leases;
@@ -55,8 +55,21 @@ pub(crate) fn drop_onward(onward: Onward) {
     }
 }
 
-/// Lets go of where a checkpoint stands.
+/// Lets go of where a checkpoint stands. That of a tree without a run has little in hand.
 pub(crate) fn let_go(work: Work) {
+    match work {
+        Work::TakingTree => {}
+        Work::GettingTree(_) => {}
+        Work::Receiving(_, _) => {}
+        Work::Deleting(_, _) => {}
+        Work::Releasing(_, _) => {}
+        Work::Finished => {}
+        work => let_go_apart(work),
+    }
+}
+
+#[inline(never)]
+fn let_go_apart(work: Work) {
     match work {
         Work::TakingTree => {}
         Work::GettingTree(_) => {}
@@ -81,11 +94,17 @@ pub(crate) fn take(place: &mut Work) -> Work
     mem::replace(place, Work::Finished)
 }
 
-/// A checkpoint stands so from now on.
+/// A checkpoint stands so from now on that stands where nothing has to be let go.
 pub(crate) fn stand(place: &mut Work, work: Work)
+    requires { is_bare place.old ≡ true }
     ensures { place.new ≡ work }
 {
-    let_go(mem::replace(place, work));
+    match mem::replace(place, work) {
+        Work::TakingTree => {}
+        Work::Releasing(_, _) => {}
+        Work::Finished => {}
+        _ => unreachable!(),
+    }
 }
 
 fn drop_folding(folding: Folding) {

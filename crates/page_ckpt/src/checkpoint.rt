@@ -626,23 +626,24 @@ impl PageCkpt {
         ensures took { Took Absorbs SameLeases self.old answer self.new result }
         ensures memory { answer ≡ Answer.Memory → result ≡ Turn.Stopped Trouble.Memory }
     {
-        match (self.stage, answer) {
-            (_, Answer::Memory) => Turn::Stopped(Trouble::Memory),
-            (Stage::TakingHome, answer) => {
-                self.home_taken(answer.given(Lock::Page(self.tree, self.page)))
-            }
-            (Stage::GettingHome, answer) => self.home_got(answer.got()),
-            (Stage::Receiving, answer) => self.received_by(alloc, answer.received()),
-            (Stage::TakingRight, answer) => {
+        if let Answer::Memory = answer {
+            return Turn::Stopped(Trouble::Memory);
+        }
+        // The answer stays where it lies: an arm that had one of its own would clear room for it at each step.
+        match self.stage {
+            Stage::TakingHome => self.home_taken(answer.given(Lock::Page(self.tree, self.page))),
+            Stage::GettingHome => self.home_got(answer.got()),
+            Stage::Receiving => self.received_by(alloc, answer.received()),
+            Stage::TakingRight => {
                 self.right_taken(answer.given(Lock::Page(self.tree, self.at.page)))
             }
-            (Stage::GettingRight, answer) => self.right_got(alloc, answer.got()),
-            (Stage::PuttingRight, answer) => self.right_put(alloc, answer.done()),
-            (Stage::ReleasingRight, _) => self.right_released(alloc),
-            (Stage::PuttingHome, answer) => self.home_put(alloc, answer.done()),
-            (Stage::Deleting, answer) => self.deleted(answer.done()),
-            (Stage::Releasing, _) => self.released(),
-            (Stage::Finished, _) => Turn::Stopped(Trouble::Failed),
+            Stage::GettingRight => self.right_got(alloc, answer.got()),
+            Stage::PuttingRight => self.right_put(alloc, answer.done()),
+            Stage::ReleasingRight => self.right_released(alloc),
+            Stage::PuttingHome => self.home_put(alloc, answer.done()),
+            Stage::Deleting => self.deleted(answer.done()),
+            Stage::Releasing => self.released(),
+            Stage::Finished => Turn::Stopped(Trouble::Failed),
         }
     }
 

@@ -7,6 +7,7 @@ ghost use Rattle.head_codec.specs.Spelling.{HasSpelling, head_of};
 ghost use Rattle.cloud_trait.specs.Ask.{Release};
 ghost use Rattle.cloud_trait.specs.Call.{ask_of, Lends};
 ghost use Rattle.cloud_trait.specs.Machine.{LeadsBy, Took, calls_of};
+ghost use Rattle.cloud_trait.specs.Views.{done_of, received_of, sent_of};
 ghost use Rattle.cloud_trait.specs.Weather.{Makes};
 ghost use Rattle.recover_run.specs.Kept.{AllPlaced};
 
@@ -318,9 +319,17 @@ impl RecoverRun {
         ensures { TurnsBy (λ r n. none_read r.aim r ≡ n) self.old self.new result }
     {
         match self.aim {
-            Aim::Opening => self.read(alloc, Head::empty(alloc)),
+            Aim::Opening => self.read_none(alloc),
             Aim::Settling => self.releasing(Ok(RecoverAnswer::Nothing)),
         }
+    }
+
+    /// An opening takes an absent head for the empty one.
+    #[inline(never)]
+    fn read_none(&mut self, alloc: Global) -> Turn<RecoverAnswer>
+        ensures { TurnsBy (λ r n. head_read r empty_head ≡ n) self.old self.new result }
+    {
+        self.read(alloc, Head::empty(alloc))
     }
 
     #[inline(never)]
@@ -378,15 +387,11 @@ impl RecoverRun {
     // ---- the records of an open head
 
     #[inline(never)]
-    fn received(
-        &mut self,
-        alloc: Global,
-        received: Result<MessageList, Trouble>,
-    ) -> Turn<RecoverAnswer>
+    fn received(&mut self, alloc: Global, answer: Answer) -> Turn<RecoverAnswer>
         requires { HasSpelling self.old.head }
-        ensures { TurnsBy (λ r n. received_by r received ≡ n) self.old self.new result }
+        ensures { TurnsBy (λ r n. received_by r (received_of answer) ≡ n) self.old self.new result }
     {
-        match received {
+        match answer.received() {
             Ok(messages) => self.gather(alloc, messages.as_slice()),
             Err(trouble) => self.stop(trouble),
         }
@@ -430,11 +435,12 @@ impl RecoverRun {
         Turn::More
     }
 
-    fn deleted(&mut self, alloc: Global, done: Result<(), Trouble>) -> Turn<RecoverAnswer>
+    #[inline(never)]
+    fn deleted(&mut self, alloc: Global, answer: Answer) -> Turn<RecoverAnswer>
         requires { HasSpelling self.old.head }
-        ensures { TurnsBy (λ r n. deleted_by r done ≡ n) self.old self.new result }
+        ensures { TurnsBy (λ r n. deleted_by r (done_of answer) ≡ n) self.old self.new result }
     {
-        match done {
+        match answer.done() {
             Ok(()) => {
                 self.stage = Stage::Receiving;
                 let _ = self.ids.pop_front();
@@ -483,11 +489,11 @@ impl RecoverRun {
     }
 
     #[inline(never)]
-    fn sent(&mut self, alloc: Global, sent: Result<MsgId, Trouble>) -> Turn<RecoverAnswer>
+    fn sent(&mut self, alloc: Global, answer: Answer) -> Turn<RecoverAnswer>
         requires { self.old.stage ≡ Stage.Sending }
-        ensures { TurnsBy (λ r n. sent_by r sent ≡ n) self.old self.new result }
+        ensures { TurnsBy (λ r n. sent_by r (sent_of answer) ≡ n) self.old self.new result }
     {
-        match sent {
+        match answer.sent() {
             Ok(_) => self.pass_record(alloc),
             Err(trouble) => self.stop(trouble),
         }
@@ -513,11 +519,11 @@ impl RecoverRun {
     // ---- behind the put
 
     #[inline(never)]
-    fn put(&mut self, alloc: Global, done: Result<(), Trouble>) -> Turn<RecoverAnswer>
+    fn put(&mut self, alloc: Global, answer: Answer) -> Turn<RecoverAnswer>
         requires { HasSpelling self.old.head }
-        ensures { TurnsBy (λ r n. put_by r done ≡ n) self.old self.new result }
+        ensures { TurnsBy (λ r n. put_by r (done_of answer) ≡ n) self.old self.new result }
     {
-        match done {
+        match answer.done() {
             Ok(()) => self.clear_kept(alloc),
             Err(trouble) => self.stop(trouble),
         }
@@ -566,15 +572,11 @@ impl RecoverRun {
     }
 
     #[inline(never)]
-    fn swept(
-        &mut self,
-        alloc: Global,
-        received: Result<MessageList, Trouble>,
-    ) -> Turn<RecoverAnswer>
+    fn swept(&mut self, alloc: Global, answer: Answer) -> Turn<RecoverAnswer>
         requires { HasSpelling self.old.head }
-        ensures { TurnsBy (λ r n. swept_by r received ≡ n) self.old self.new result }
+        ensures { TurnsBy (λ r n. swept_by r (received_of answer) ≡ n) self.old self.new result }
     {
-        match received {
+        match answer.received() {
             Ok(messages) => self.sweep(alloc, messages.as_slice()),
             Err(trouble) => self.stop(trouble),
         }
@@ -645,19 +647,22 @@ impl RecoverRun {
         ensures took { Took (LeadsBy recovery_next) KeepsLeases self.old answer self.new result }
         ensures memory { answer ≡ Answer.Memory → result ≡ Turn.Stopped Trouble.Memory }
     {
-        match (self.stage, answer) {
-            (_, Answer::Memory) => Turn::Stopped(Trouble::Memory),
-            (Stage::ReleasingOld, _) => self.old_released(),
-            (Stage::Taking, answer) => self.taken(answer.given(Lock::Client(self.client))),
-            (Stage::Getting, answer) => self.got(alloc, answer.got()),
-            (Stage::Receiving, answer) => self.received(alloc, answer.received()),
-            (Stage::Deleting, answer) => self.deleted(alloc, answer.done()),
-            (Stage::Sending, answer) => self.sent(alloc, answer.sent()),
-            (Stage::Putting, answer) => self.put(alloc, answer.done()),
-            (Stage::Clearing, _) => self.cleared(),
-            (Stage::Sweeping, answer) => self.swept(alloc, answer.received()),
-            (Stage::Releasing, _) => self.released(),
-            (Stage::Finished, _) => Turn::Stopped(Trouble::Failed),
+        if let Answer::Memory = answer {
+            return Turn::Stopped(Trouble::Memory);
+        }
+        // The answer stays where it lies: an arm that had one of its own would clear room for it at each step.
+        match self.stage {
+            Stage::ReleasingOld => self.old_released(),
+            Stage::Taking => self.taken(answer.given(Lock::Client(self.client))),
+            Stage::Getting => self.got(alloc, answer.got()),
+            Stage::Receiving => self.received(alloc, answer),
+            Stage::Deleting => self.deleted(alloc, answer),
+            Stage::Sending => self.sent(alloc, answer),
+            Stage::Putting => self.put(alloc, answer),
+            Stage::Clearing => self.cleared(),
+            Stage::Sweeping => self.swept(alloc, answer),
+            Stage::Releasing => self.released(),
+            Stage::Finished => Turn::Stopped(Trouble::Failed),
         }
     }
 

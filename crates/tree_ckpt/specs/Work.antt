@@ -58,6 +58,11 @@ is_bare (Releasing held end) = true
 is_bare Finished = true
 is_bare w = false
 
+-- whether the tree's lease is taken next
+abbrev pub is_taking : Work → Bool
+is_taking TakingTree = true
+is_taking w = false
+
 -- whether the tree object is got next
 abbrev pub is_getting : Work → Bool
 is_getting (GettingTree l) = true
@@ -67,6 +72,11 @@ is_getting w = false
 abbrev pub is_receiving : Work → Bool
 is_receiving (Receiving l root) = true
 is_receiving w = false
+
+-- whether the newest lease is given back next
+abbrev pub is_releasing : Work → Bool
+is_releasing (Releasing held end) = true
+is_releasing w = false
 
 -- the items that the put in hand applies, those of a leaf's own put
 abbrev pub applying_in : Work → List PuItem

@@ -9,7 +9,7 @@ ghost use Rattle.tree_phases.specs.declared.folding.Left.{Left};
 ghost use Rattle.tree_phases.specs.Folding.{folding_next};
 ghost use Rattle.tree_phases.specs.Descent.{descent_next};
 ghost use Rattle.tree_phases.specs.Rising.{rising_next};
-ghost use Rattle.tree_ckpt.specs.Work.{claims_in, is_bare, is_getting, is_receiving};
+ghost use Rattle.tree_ckpt.specs.Work.{claims_in, is_bare, is_getting, is_receiving, is_releasing, is_taking};
 ghost use Rattle.tree_ckpt.specs.Moves.{Moves, MovesTo, MovesOn, descending_on, page_taken, folding_on, onward_from, page_left, rising_on, Absorbs};
 
 use crate::ending::{deleted, released};
@@ -198,7 +198,20 @@ fn lead_apart(alloc: Global, tree: TreeId, place: &mut Work, answer: Answer) -> 
     moves_to(place, lead(alloc, tree, work, answer))
 }
 
+/// The same, where the tree's lease was taken.
+#[inline(never)]
+fn lead_taken(tree: TreeId, place: &mut Work, answer: Answer) -> Turn<CkptAnswer>
+    requires { is_taking place.old ≡ true }
+    ensures { MovesTo (Absorbs tree place.old answer) (claims_in place.old) place.new result }
+{
+    match place {
+        Work::TakingTree => moves_to(place, tree_taken(answer.given(Lock::Tree(tree)))),
+        _ => unreachable!(),
+    }
+}
+
 /// The same, where the tree object was got.
+#[inline(never)]
 fn lead_got(tree: TreeId, place: &mut Work, answer: Answer) -> Turn<CkptAnswer>
     requires { is_getting place.old ≡ true }
     ensures { MovesTo (Absorbs tree place.old answer) (claims_in place.old) place.new result }
@@ -210,6 +223,7 @@ fn lead_got(tree: TreeId, place: &mut Work, answer: Answer) -> Turn<CkptAnswer>
 }
 
 /// The same, where the queue was received from.
+#[inline(never)]
 fn lead_received(alloc: Global, tree: TreeId, place: &mut Work, answer: Answer) -> Turn<CkptAnswer>
     requires { is_receiving place.old ≡ true }
     ensures { MovesTo (Absorbs tree place.old answer) (claims_in place.old) place.new result }
@@ -223,24 +237,34 @@ fn lead_received(alloc: Global, tree: TreeId, place: &mut Work, answer: Answer) 
     }
 }
 
+/// The same, where the newest lease was given back.
+#[inline(never)]
+fn lead_released(tree: TreeId, place: &mut Work, answer: Answer) -> Turn<CkptAnswer>
+    requires { is_releasing place.old ≡ true }
+    ensures { MovesTo (Absorbs tree place.old answer) (claims_in place.old) place.new result }
+{
+    drop_answer(answer);
+    match place {
+        Work::Releasing(held, end) => match held.newest() {
+            Some(_) => Turn::More,
+            None => {
+                let end = mem::replace(end, Err(Trouble::Failed));
+                moves_to(place, Moved::finished(end))
+            }
+        },
+        _ => unreachable!(),
+    }
+}
+
 /// Goes where an answer leads. The calls of a tree without a run stand apart, each with room for what it moves alone.
 fn lead_on(alloc: Global, tree: TreeId, place: &mut Work, answer: Answer) -> Turn<CkptAnswer>
     ensures { MovesTo (Absorbs tree place.old answer) (claims_in place.old) place.new result }
 {
     match place {
-        Work::TakingTree => moves_to(place, tree_taken(answer.given(Lock::Tree(tree)))),
+        Work::TakingTree => lead_taken(tree, place, answer),
         Work::GettingTree(_) => lead_got(tree, place, answer),
         Work::Receiving(_, _) => lead_received(alloc, tree, place, answer),
-        Work::Releasing(held, end) => {
-            drop_answer(answer);
-            match held.newest() {
-                Some(_) => Turn::More,
-                None => {
-                    let end = mem::replace(end, Err(Trouble::Failed));
-                    moves_to(place, Moved::finished(end))
-                }
-            }
-        }
+        Work::Releasing(_, _) => lead_released(tree, place, answer),
         _ => lead_apart(alloc, tree, place, answer),
     }
 }
@@ -249,8 +273,8 @@ fn lead_on(alloc: Global, tree: TreeId, place: &mut Work, answer: Answer) -> Tur
 pub fn absorbed(alloc: Global, tree: TreeId, place: &mut Work, answer: Answer) -> Turn<CkptAnswer>
     ensures { MovesTo (Absorbs tree place.old answer) (claims_in place.old) place.new result }
 {
-    match answer {
-        Answer::Memory => Turn::Stopped(Trouble::Memory),
-        answer => lead_on(alloc, tree, place, answer),
+    if let Answer::Memory = answer {
+        return Turn::Stopped(Trouble::Memory);
     }
+    lead_on(alloc, tree, place, answer)
 }

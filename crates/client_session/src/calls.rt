@@ -76,6 +76,7 @@ impl<H: Hand> SessionCalls for Session<H> {
         Session::step(self, alloc, cloud, who)
     }
 
+    #[inline(always)]
     fn step_at_work<C: Cloud>(&mut self, alloc: Global, cloud: &mut C, who: Who) -> Turn<Answer> {
         Session::step_at_work(self, alloc, cloud, who)
     }
@@ -84,6 +85,7 @@ impl<H: Hand> SessionCalls for Session<H> {
         Session::client(self)
     }
 
+    #[inline(always)]
     fn in_hand(&self) -> Option<Call<'_>> {
         Session::in_hand(self)
     }

@@ -224,6 +224,7 @@ impl<H: Hand> Session<H> {
     }
 
     /// The same of a session that is known to be at work, which is never refused.
+    #[inline(always)]
     pub fn step_at_work<C: Cloud>(&mut self, alloc: Global, cloud: &mut C, who: Who) -> Turn<Answer>
         requires { is_working self.old.work ≡ true }
         ensures { StepsSession who (C.seen cloud.old) (C.seen cloud.new)
@@ -250,6 +251,7 @@ impl<H: Hand> Session<H> {
     }
 
     /// The service call that the next step makes; none where nothing is at work.
+    #[inline(always)]
     pub fn in_hand(&self) -> Option<Call<'_>>
         ensures { option_map ask_of result ≡ ask_of_work self.now.work }
     {

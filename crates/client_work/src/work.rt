@@ -157,6 +157,7 @@ impl Hand for Work {
         }
     }
 
+    #[inline(always)]
     fn in_hand(&self) -> Option<Call<'_>> {
         match self {
             Work::Opening(machine) => Some(machine.in_hand()),
@@ -338,6 +339,7 @@ impl Hand for Work {
     // Commits, checkpoints, settlings and sweeps go on where they stand: most steps are theirs, and to move one costs as much as a
     // step of it. Here stands nothing that would need room for a whole machine or for what it shows, since that would be cleared at each
     // step.
+    #[inline(always)]
     fn step<C: Cloud>(
         &mut self,
         alloc: Global,
@@ -377,6 +379,7 @@ impl Work {
     }
 
     /// Has in hand what a step of a commit, a checkpoint, a settling or a sweep leaves, which stays where it goes on.
+    #[inline(always)]
     fn end(&mut self, turn: &Turn<Answer>)
         ensures { self.new ≡ ended_by self.old turn.now }
     {

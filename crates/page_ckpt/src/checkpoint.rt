@@ -622,6 +622,7 @@ impl PageCkpt {
     }
 
     /// Takes the answer of the call in hand. A lease that the call gave back has left.
+    #[inline(always)]
     fn absorb(&mut self, alloc: Global, answer: Answer) -> Turn<CkptAnswer>
         ensures took { Took Absorbs SameLeases self.old answer self.new result }
         ensures memory { answer ≡ Answer.Memory → result ≡ Turn.Stopped Trouble.Memory }
@@ -648,6 +649,7 @@ impl PageCkpt {
     }
 
     /// Makes the call in hand, and does the local work up to the next one.
+    #[inline(always)]
     pub fn step<C: Cloud>(&mut self, alloc: Global, cloud: &mut C, who: Who) -> Turn<CkptAnswer>
         // The call in hand was made, and all that follows from its one answer.
         ensures steps { Stepped who (C.seen cloud.old) (C.seen cloud.new) self.old self.new result }

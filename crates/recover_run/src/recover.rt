@@ -642,6 +642,7 @@ impl RecoverRun {
     // ---- the step
 
     /// Takes the answer of the call in hand. A lease that the call gave back has left.
+    #[inline(always)]
     fn absorb(&mut self, alloc: Global, answer: Answer) -> Turn<RecoverAnswer>
         requires { KeepsLeases self.old answer self.old }
         ensures took { Took (LeadsBy recovery_next) KeepsLeases self.old answer self.new result }
@@ -667,6 +668,7 @@ impl RecoverRun {
     }
 
     /// Makes the call in hand, and does the local work up to the next one.
+    #[inline(always)]
     pub fn step<C: Cloud>(&mut self, alloc: Global, cloud: &mut C, who: Who) -> Turn<RecoverAnswer>
         // The call in hand was made, and all that follows from its one answer.
         ensures steps { Stepped who (C.seen cloud.old) (C.seen cloud.new) self.old self.new result }

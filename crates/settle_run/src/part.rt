@@ -137,6 +137,7 @@ impl Part {
 
     /// Makes the call in hand, and does the local work up to the next one. Ended gives the number of deletions of a checkpoint that
     /// failed.
+    #[inline(always)]
     pub(crate) fn step<C: Cloud>(&mut self, alloc: Global, cloud: &mut C, who: Who) -> Turn<u64>
         ensures steps { PartSteps who (C.seen cloud.old) (C.seen cloud.new) self.old self.new result }
         ensures sound { IsSoundPart self.old }

@@ -176,6 +176,7 @@ impl SettleRun {
     }
 
     /// Counts the call, and goes on by what it came to.
+    #[inline(always)]
     fn follow(&mut self, alloc: Global, turn: Turn<u64>) -> Turn<Settled>
         ensures { TurnsBy (λ s n. after_turn s turn ≡ n) self.old self.new result }
     {
@@ -202,6 +203,7 @@ impl SettleRun {
     }
 
     /// Makes the call in hand, and does the local work up to the next one.
+    #[inline(always)]
     pub fn step<C: Cloud>(&mut self, alloc: Global, cloud: &mut C, who: Who) -> Turn<Settled>
         // The call in hand was made, and all that follows from its one answer.
         ensures steps { Stepped who (C.seen cloud.old) (C.seen cloud.new) self.old self.new result }

@@ -112,6 +112,7 @@ impl TreeCkpt {
     }
 
     /// Goes where the answer of the call in hand leads.
+    #[inline(always)]
     fn go(&mut self, alloc: Global, answer: Answer) -> Turn<CkptAnswer>
         ensures went { WentBy self.old answer self.new result }
         ensures short { IsShort self.new.work }
@@ -122,6 +123,7 @@ impl TreeCkpt {
     }
 
     /// Takes the answer of the call in hand. A lease that the call gave back has left.
+    #[inline(always)]
     fn absorb(&mut self, alloc: Global, answer: Answer) -> Turn<CkptAnswer>
         ensures took { Took AbsorbsBy SameLeases self.old answer self.new result }
         ensures short { result ≡ Turn.More → IsShort self.new.work }
@@ -137,6 +139,7 @@ impl TreeCkpt {
     }
 
     /// Makes the call in hand, and does the local work up to the next one.
+    #[inline(always)]
     pub fn step<C: Cloud>(&mut self, alloc: Global, cloud: &mut C, who: Who) -> Turn<CkptAnswer>
         // By one answer: where it leads, why it stops and what makes it stop, what Done means, and what comes where all calls were calm.
         ensures steps { Stepped who (C.seen cloud.old) (C.seen cloud.new) self.old self.new result }

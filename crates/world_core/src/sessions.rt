@@ -135,6 +135,7 @@ impl<S: SessionCalls> Sessions<S> {
     }
 
     /// Makes a step of the session of a number, which has a call in hand.
+    #[inline(always)]
     pub(crate) fn step<C: Cloud>(&mut self, alloc: Global, cloud: &mut C, who: Who) -> Turn<Answer>
         requires { IsAtWork who.session self.old }
         ensures { Changes who.session (λ a b. StepsSession who (C.seen cloud.old) (C.seen cloud.new) a b

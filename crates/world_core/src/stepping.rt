@@ -58,6 +58,7 @@ impl<S: SessionCalls> World<S> {
 
     /// Makes a step of a session that is at work under a wish, where the quota has a call left.
     #[tactic(auto, using(crate::proofs::QuotaLemmas::spends_not, crate::proofs::QuotaLemmas::spends_none))]
+    #[inline(always)]
     pub(crate) fn step_within<C: Bench>(
         &mut self,
         alloc: Global,
@@ -81,6 +82,7 @@ impl<S: SessionCalls> World<S> {
     }
 
     /// Makes a step of a session that is at work under a wish, between two looks where it is a put and the world is not blind.
+    #[inline(always)]
     fn step_looked<C: Bench>(
         &mut self,
         alloc: Global,
@@ -128,6 +130,7 @@ impl<S: SessionCalls> World<S> {
     }
 
     /// Makes a step at whose put nothing looks: it is none, or the world is blind.
+    #[inline(never)]
     fn step_other<C: Bench>(
         &mut self,
         alloc: Global,
@@ -159,6 +162,7 @@ impl<S: SessionCalls> World<S> {
     }
 
     /// Makes a step at whose put nothing looks, and of whose call this is to be noted.
+    #[inline(always)]
     fn step_noted<C: Bench>(
         &mut self,
         alloc: Global,
@@ -190,6 +194,7 @@ impl<S: SessionCalls> World<S> {
 
     /// Notes that what the session had in hand came to its end; done where that is a checkpoint that was done. Refused for memory
     /// alone, and then nothing changes.
+    #[inline(always)]
     fn note_end(&mut self, number: SessionNo, done: bool) -> Result<(), Refused>
         ensures ok { OnOk result (NotesEnd number done self.old self.new) }
         ensures err { OnErr result (self.new ≡ self.old) }
@@ -199,6 +204,7 @@ impl<S: SessionCalls> World<S> {
     }
 
     /// Notes the call in hand of the session, of which this is to be noted. Refused for memory alone, and then nothing changes.
+    #[inline(always)]
     fn note_call(&mut self, number: SessionNo, note: Option<Note>) -> Result<(), Refused>
         requires { HasNote number self.old.sessions note }
         ensures ok { OnOk result (NotesCall number self.old self.new) }
@@ -249,6 +255,7 @@ impl<S: SessionCalls> World<S> {
     }
 
     /// Makes the call in hand of the session.
+    #[inline(always)]
     fn call<C: Bench>(&mut self, alloc: Global, cloud: &mut C, who: Who) -> Turn<Answer>
         requires { IsAtWork who.session self.old.sessions }
         ensures session { Changes who.session (λ a b. StepsSession who (C.seen cloud.old) (C.seen cloud.new) a b

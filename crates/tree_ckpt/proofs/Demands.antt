@@ -13,8 +13,8 @@ use Rattle.byte_format.specs.Whole.{whole, offset}
 use Rattle.leaf_view.specs.Leaf.{Leaf, leaf as leaf_format}
 use Rattle.leaf_view.specs.Lookup.{page_at}
 use Rattle.leaf_edit.specs.Lacked.{lacked}
-use Rattle.node_codec.specs.Inner.{inner_of, inner_format}
-use Rattle.node_codec.specs.Tree.{Tree, tree_of, tree_format}
+use Rattle.node_codec.specs.Inner.{Inner, inner_of, inner_format}
+use Rattle.node_codec.specs.Tree.{Tree, tree_format}
 use Rattle.cloud_trait.specs.declared.answer.Answer.TheVariants as call
 use Rattle.cloud_trait.specs.Ask.{GetHeld, Receive, Take}
 use Rattle.ckpt_parts.specs.Deleting.{next_id}
@@ -24,17 +24,17 @@ use Rattle.run_cursor.specs.Covered.{is_seen}
 use Rattle.tree_phases.specs.Placing.{has_nothing}
 use Rattle.tree_phases.specs.Read.{damaged, tree_held}
 use Rattle.tree_phases.specs.Reserve.{version_spent, pages_spent, next_tree}
-use Rattle.tree_phases.specs.Descent.{fork_of, arrive, with_node, got_node, descent_got}
+use Rattle.tree_phases.specs.Descent.{passed, with_node, descent_next}
 use Rattle.tree_phases.specs.Plan.{leaf_plan}
 use Rattle.tree_phases.specs.Folding.{FoldingStep, folding_ask, folding_next, bad_low}
+use Rattle.tree_phases.specs.Fork.{bad_fence, forked_on}
 use Rattle.tree_phases.specs.Nodes.{node_plan}
-use Rattle.tree_phases.specs.Rising.{RisingStep, rising_ask, touched_node, plan_of, last_plan, rise}
-use Rattle.tree_phases.specs.Rising as rising
+use Rattle.tree_phases.specs.Rising.{RisingStep, rising_ask, rising_next, touched_node, plan_of, last_plan, rise}
 use Rattle.tree_phases.specs.Root.{risen_by}
 use Rattle.tree_ckpt.specs.declared.work.Onward.TheVariants as onward
 use Rattle.tree_ckpt.specs.declared.work.Work.TheVariants as work
-use Rattle.tree_ckpt.specs.Work.{work_ask, delete_ask, release_ask}
-use Rattle.tree_ckpt.specs.Moves.{Step, released_by, rising_on, descending_on, going_by, page_taken, folding_on, tree_taken, tree_damage, tree_read, tree_got, intake_taken, ReceivedBy, Leads}
+use Rattle.tree_ckpt.specs.Work.{work_ask, delete_ask, release_ask, one_lease}
+use Rattle.tree_ckpt.specs.Moves.{Step, stopping, tree_damage, Leads}
 use Rattle.tree_ckpt.specs.Making.{Making, making_ask, MakingLeads, KeepsLeases}
 use Rattle.tree_ckpt.specs.Leases.{HasIds, HoldsOne, HoldsAt, Stands}
 use Rattle.tree_ckpt.specs.Causes.{Calls, GoesRight, ticks_of, kept_trouble}
@@ -42,18 +42,27 @@ use Rattle.tree_ckpt.specs.Way.{behind, BreaksFrom, from_root, BreaksWay}
 use Rattle.tree_ckpt.specs.Due.{Due, LeafDue, NodeDue, RootDue, IsSpent, HasNoPages, GetsLeaf, IsUp, IsDue, IsCutShort, Spends}
 use Rattle.tree_ckpt.specs.Demands.{Refuses, BreaksRoot, BreaksRecord, BreaksNode, BreaksLeaf, Demands}
 use Rattle.tree_ckpt.specs.Stepped.{Owes}
-use Rattle.tree_ckpt.proofs.Words.{Trouble, Lock, ObjName, QueueName, PuItem, Answer, Message, CkptAnswer, Turn, More, Ended, Stopped, Claim, Next, Goes, Ends, Stops, Took, Deed, calls_of, given_of, got_of, received_of, done_of, Fits, Ask, PagePut, Intake, Leases, Chart, KeptNode, Link, Descent, Fork, Folding, Left, Rising, Held, Work}
+use Rattle.tree_ckpt.proofs.Words.{Trouble, Lock, ObjName, QueueName, PuItem, Answer, Message, CkptAnswer, Turn, More, Ended, Stopped, Claim, Next, Goes, Ends, Stops, Took, Deed, calls_of, given_of, got_of, received_of, done_of, Fits, Ask, PagePut, Leases, Chart, KeptNode, Link, Descent, Fork, Folding, Rising, Held, Work}
 use Rattle.tree_ckpt.specs.Working.{HoldsLeaf}
 use Rattle.tree_ckpt.proofs.Causes.{KnowsAt}
+use Rattle.tree_ckpt.proofs.Outcomes.{Descends, Ascends, Fails}
+use Rattle.tree_ckpt.proofs.Outcomes as step
+use Rattle.tree_ckpt.proofs.Failing.{IsOneWay, fails_lead, refusal_leads, no_messages_lead, bad_message_leads, kept_leads}
 use Rattle.tree_ckpt.proofs.LeafOutcomes.{Reads, Works, came_to, works}
 use Rattle.tree_ckpt.proofs.LeafOutcomes as leaf
-use Rattle.tree_ckpt.proofs.WayOutcomes.{Gets, gets}
+use Rattle.tree_ckpt.proofs.WayOutcomes.{Arrives, Gets, arrives, gets, reads_fork}
 use Rattle.tree_ckpt.proofs.WayOutcomes as way
 use Rattle.tree_ckpt.proofs.RiseOutcomes.{Rises, rises}
 use Rattle.tree_ckpt.proofs.RiseOutcomes as climb
 use Rattle.tree_ckpt.proofs.Spent.{leaf_plan_spent, leaf_plan_full, node_plan_spent, node_plan_full, last_plan_spent, last_plan_full}
-use Rattle.tree_ckpt.proofs.Walking.{page_same, damage_same, fence_same, fork_none, fork_some, fork_level, fork_fence, fork_promised, behind_keeps, way_stops}
+use Rattle.tree_ckpt.proofs.Walking.{page_same, damage_same, fence_same, promised_leads, behind_keeps, way_stops}
 use Rattle.tree_ckpt.proofs.Lows.{root_upto}
+
+some_is : (t u : Trouble) → Some t ≡ Some u → t ≡ u
+some_is t u e = cc (e)
+
+err_is : {A : Type 0} (t u : Trouble) → ◌≡◌ {A = Result A Trouble} (Err t) (Err u) → t ≡ u
+err_is t u e = cc (e)
 
 -- it stops for this trouble
 abbrev IsStop : {M A : Type 0} → Trouble → Next M A → Type 0
@@ -67,27 +76,37 @@ NextOwes (Goes w) t = kept_trouble w ≡ Some t
 NextOwes (Ends w x) t = ⊥
 NextOwes (Stops w u) t = u ≡ t
 
-owes_by : (t : Trouble) (next built : Step) → next ≡ built → NextOwes built t → NextOwes next t
-owes_by t next built e h = subst (λ (x : Step). NextOwes x t) (sym e) h
-
 owes_same : (t u : Trouble) (next : Step) → t ≡ u → NextOwes next t → NextOwes next u
 owes_same t u next e h = subst (NextOwes next) e h
 
--- so a step stops or keeps it
-leaf_owes : (h : Held) (t : Trouble) (next : Next Folding Left) → IsStop t next → NextOwes (folding_on h next) t
-leaf_owes h t (Goes f) s = absurd s
-leaf_owes h t (Ends f out) s = absurd s
-leaf_owes h t (Stops f u) s = ap Some s
+stopping_owes : {next : Step} (held : Leases) (t : Trouble) → next ≡ stopping held t → NextOwes next t
+stopping_owes held t e = subst (λ (x : Step). NextOwes x t) (sym e) refl
 
-down_owes : (h : Held) (t : Trouble) (next : Next Descent (Unit {0})) → IsStop t next → NextOwes (descending_on h next) t
-down_owes h t (Goes d) s = absurd s
-down_owes h t (Ends d x) s = absurd s
-down_owes h t (Stops d u) s = ap Some s
+stops_owe : {next : Step} (t : Trouble) → next ≡ Stops work.Finished t → NextOwes next t
+stops_owe t e = subst (λ (x : Step). NextOwes x t) (sym e) refl
 
-up_owes : (h : Held) (t : Trouble) (next : Next Rising (Unit {0})) → IsStop t next → NextOwes (rising_on h next) t
-up_owes h t (Goes r) s = absurd s
-up_owes h t (Ends r x) s = absurd s
-up_owes h t (Stops r u) s = ap Some s
+-- a step that fails keeps its trouble
+fails_owe : (tree : ℕ) {w : Work} {a : Answer} {held : Leases} {t : Trouble} (next : Step) → IsOneWay w → Fails tree w a held t → Leads tree w a next → NextOwes next t
+fails_owe tree {held = held} {t = t} next one f leads = stopping_owes held t (fails_lead one f leads)
+
+-- .. where the work at a leaf, the way down or the way up stops
+stop_is : {M A : Type 0} (t : Trouble) (next : Next M A) → IsStop t next → (m : M) × (next ≡ Stops m t)
+stop_is t (Goes m) s = absurd s
+stop_is t (Ends m x) s = absurd s
+stop_is t (Stops m u) s = (m, ap (Stops m) s)
+
+leaf_owes : (tree : ℕ) (next : Step) (h : Held) (f : Folding) (a : Answer) (t : Trouble) → IsStop t (folding_next f a) → Leads tree (work.Folding h f) a next → NextOwes next t
+leaf_owes tree next h f a t s leads = let at = stop_is t (folding_next f a) s in fails_owe tree next tt (step.no_leaf h f at.0 a t at.1) leads
+
+down_owes : (tree : ℕ) {w : Work} {a : Answer} {h : Held} {way : Next Descent (Unit {0})} (next : Step) (t : Trouble) → IsOneWay w → Descends tree w a h way → IsStop t way
+    → Leads tree w a next → NextOwes next t
+down_owes tree {w = w} {a = a} {h = h} {way = x} next t one d s leads =
+    let at = stop_is t x s in fails_owe tree next one (step.no_way at.0 t (subst (Descends tree w a h) at.1 d)) leads
+
+up_owes : (tree : ℕ) {w : Work} {a : Answer} {h : Held} {way : Next Rising (Unit {0})} (next : Step) (t : Trouble) → IsOneWay w → Ascends tree w a h way → IsStop t way
+    → Leads tree w a next → NextOwes next t
+up_owes tree {w = w} {a = a} {h = h} {way = x} next t one up s leads =
+    let at = stop_is t x s in fails_owe tree next one (step.no_ascent at.0 t (subst (Ascends tree w a h) at.1 up)) leads
 
 -- ---- calls that were refused
 
@@ -147,8 +166,21 @@ folding_refused {f = f} {a = a} {next = next} t l k (leaf.puts some w) =
     let e : done_of a ≡ Err t = refused_view done_of (folding_ask f l) a t refl (λ end now. refl) (λ lk until asks. absurd (no_folding_takes f l lk asks)) k in
     put_nothing (subst (λ (d : Result (Unit {0}) Trouble). leaf.Lands f d next) e w)
 
-rising_refused : (h : Held) (r : Rising) (a : Answer) (t : Trouble) → Refuses (rising_ask r h.lease) a t → done_of a ≡ Err t
-rising_refused h r a t k = refused_view done_of (rising_ask r h.lease) a t refl (λ end now. refl) (λ lk until asks. absurd (no_rising_takes r h.lease lk asks)) k
+-- .. and so do the way down and the way up
+node_refused : {d : Descent} {next : Next Descent (Unit {0})} (t : Trouble) → Gets d (Err t) next → IsStop t next
+node_refused u (way.refused t) = refl
+
+descent_refused : (tree : ℕ) (l : Claim) (d : Descent) (a : Answer) (t : Trouble) → Refuses (GetHeld (object.Page tree d.page) l) a t → IsStop t (descent_next d a)
+descent_refused tree l d a t k =
+    node_refused {d = d} t (subst (λ (g : Result (Option (List ℕ)) Trouble). Gets d g (descent_next d a)) (get_refused (object.Page tree d.page) l a t k) (gets d (got_of a)))
+
+rise_refused : {r : Rising} {next : RisingStep} (t : Trouble) → climb.Lands r (Err t) next → IsStop t next
+rise_refused u (climb.not_put t) = refl
+
+rising_refused : (l : Claim) (r : Rising) (a : Answer) (t : Trouble) → Refuses (rising_ask r l) a t → IsStop t (rising_next r a)
+rising_refused l r a t k =
+    let e : done_of a ≡ Err t = refused_view done_of (rising_ask r l) a t refl (λ end now. refl) (λ lk until asks. absurd (no_rising_takes r l lk asks)) k in
+    rise_refused {r = r} t (subst (λ (d : Result (Unit {0}) Trouble). climb.Lands r d (rising_next r a)) e (climb.lands r (done_of a)))
 
 -- no deletion and no release is refused
 delete_goes : (tree : ℕ) (ids : List ℕ) (a : Answer) (t : Trouble) → HasIds ids → Fits (delete_ask tree (next_id ids)) a → Refuses (delete_ask tree (next_id ids)) a t → ⊥
@@ -167,56 +199,46 @@ release_goes tree (Some l) a t has fits k = k
 
 refused_owes : (tree : ℕ) (w : Work) (a : Answer) (next : Step) (t : Trouble) → HoldsAt tree w → Fits (work_ask tree w) a → Leads tree w a next
     → Refuses (work_ask tree w) a t → NextOwes next t
-refused_owes tree work.TakingTree a next t own fits e k = owes_by t next _ (e ∙ ap tree_taken (take_refused (lock.Tree tree) 60 a t k)) refl
-refused_owes tree (work.GettingTree l) a next t own fits e k = owes_by t next _ (e ∙ ap (tree_got tree l) (get_refused (object.Tree tree) l a t k)) refl
-refused_owes tree (work.Receiving l root) a next t own fits h k =
-    owes_by t next _ (subst (λ (g : Result (List Message) Trouble). ReceivedBy tree l root g next) (receive_refused (queue.TreePu tree) a t k) h) refl
-refused_owes tree (work.Descending h d) a next t own fits e k =
-    owes_by t next _ (e ∙ ap (λ (g : Result (Option (List ℕ)) Trouble). descending_on h (descent_got d g)) (get_refused (object.Page d.chart.tree d.page) h.lease a t k)) refl
-refused_owes tree (work.TakingPage h c) a next t own fits e k =
-    owes_by t next _ (e ∙ ap (page_taken h c) (take_refused (lock.Page c.chart.tree c.page) 30 a t k)) refl
-refused_owes tree (work.Folding h f) a next t own fits e k = owes_by t next _ e (leaf_owes h t (folding_next f a) (folding_refused {f = f} t h.lease k (works f a)))
-refused_owes tree (work.ReleasingPage h l o) a next t own fits e k = absurd (release_goes tree (Some l) a t tt fits k)
-refused_owes tree (work.Rising h r) a next t own fits e k =
-    owes_by t next _ (e ∙ ap (λ (d : Result (Unit {0}) Trouble). rising_on h (rising.risen_by r d)) (rising_refused h r a t k)) refl
-refused_owes tree (work.Deleting h applied) a next t own fits e k = absurd (delete_goes tree h.deletions.ids a t own.1 fits k)
-refused_owes tree (work.Releasing held end) a next t own fits e k = absurd (release_goes tree (newest_lease held) a t own fits k)
-refused_owes tree w a next t own fits e k = absurd own
+refused_owes tree work.TakingTree a next t own fits leads k = stops_owe t (refusal_leads tree a t (take_refused (lock.Tree tree) 60 a t k) leads)
+refused_owes tree (work.GettingTree l) a next t own fits leads k = fails_owe tree next tt (step.no_tree l a t (get_refused (object.Tree tree) l a t k)) leads
+refused_owes tree (work.Receiving l root) a next t own fits leads k =
+    stopping_owes (one_lease l) t (no_messages_lead tree l root a t (receive_refused (queue.TreePu tree) a t k) leads)
+refused_owes tree (work.Descending h d) a next t own fits leads k =
+    down_owes tree next t tt (step.goes_on h d a) (descent_refused d.chart.tree h.lease d a t k) leads
+refused_owes tree (work.TakingPage h c) a next t own fits leads k =
+    fails_owe tree next tt (step.no_lease h c a t (take_refused (lock.Page c.chart.tree c.page) 30 a t k)) leads
+refused_owes tree (work.Folding h f) a next t own fits leads k = leaf_owes tree next h f a t (folding_refused {f = f} t h.lease k (works f a)) leads
+refused_owes tree (work.ReleasingPage h l o) a next t own fits leads k = absurd (release_goes tree (Some l) a t tt fits k)
+refused_owes tree (work.Rising h r) a next t own fits leads k = up_owes tree next t tt (step.goes_up h r a) (rising_refused h.lease r a t k) leads
+refused_owes tree (work.Deleting h applied) a next t own fits leads k = absurd (delete_goes tree h.deletions.ids a t own.1 fits k)
+refused_owes tree (work.Releasing held end) a next t own fits leads k = absurd (release_goes tree (newest_lease held) a t own fits k)
+refused_owes tree w a next t own fits leads k = absurd own
 
 -- ---- the tree object
 
-root_stops : (tree : ℕ) (l : Claim) (bytes : List ℕ) → tree_of bytes ≡ None → NextOwes (tree_got tree l (Ok (Some bytes))) (tree_damage tree bytes)
-root_stops tree l bytes none = subst (λ (x : Option Tree). NextOwes (tree_read tree l bytes x) (tree_damage tree bytes)) (sym none) refl
+-- the step at another way to write the work and the answer
+led : (tree : ℕ) (w v : Work) (a b : Answer) (next : Step) → w ≡ v → a ≡ b → Leads tree w a next → Leads tree v b next
+led tree w v a b next is e leads = subst (λ (x : Answer). Leads tree v x next) e (subst (λ (x : Work). Leads tree x a next) is leads)
 
 root_owes : (tree : ℕ) (w : Work) (a : Answer) (next : Step) (t : Trouble) → Leads tree w a next → BreaksRoot tree w a t → NextOwes next t
 root_owes tree w a next (trouble.Damaged where_it_is at) leads (here, (l, is, (bytes, e, none, there))) =
-    let one : Leads tree (work.GettingTree l) a next = subst (λ (x : Work). Leads tree x a next) is leads in
-    let two : Leads tree (work.GettingTree l) (call.Got (Some bytes)) next = subst (λ (x : Answer). Leads tree (work.GettingTree l) x next) e one in
     owes_same (tree_damage tree bytes) (trouble.Damaged where_it_is at) next
     (damage_same (place.Object (object.Tree tree)) where_it_is at (offset tree_format bytes) here there)
-    (owes_by (tree_damage tree bytes) next _ two (root_stops tree l bytes none))
+    (fails_owe tree next tt (step.bad_tree l bytes none) (led tree w (work.GettingTree l) a (call.Got (Some bytes)) next is e leads))
 root_owes tree w a next t leads k = absurd k
 
 -- ---- messages
 
-intake_owes : (tree : ℕ) (l : Claim) (root : Option (List ℕ)) (cursor : List (ℕ × ℕ)) (m : Message) (taken : Result Intake Trouble) (next : Step)
-    → TakesItems (queue.TreePu tree) cursor (Err m) taken → next ≡ intake_taken tree l root taken → NextOwes next (message_damage (queue.TreePu tree) m)
-intake_owes tree l root cursor m taken next takes e =
-    owes_by (message_damage (queue.TreePu tree) m) next _ (e ∙ ap (intake_taken tree l root) takes) refl
-
 record_owes : (tree : ℕ) (w : Work) (a : Answer) (next : Step) (t : Trouble) → Leads tree w a next → BreaksRecord tree w a t → NextOwes next t
 record_owes tree w a next (trouble.Damaged where_it_is at) leads ((l, (root, is)), (ms, (bad, e, read, here, there))) =
-    let one : Leads tree (work.Receiving l root) a next = subst (λ (x : Work). Leads tree x a next) is leads in
-    let two : Leads tree (work.Receiving l root) (call.Received ms) next = subst (λ (x : Answer). Leads tree (work.Receiving l root) x next) e one in
-    owes_same (message_damage (queue.TreePu tree) bad) (trouble.Damaged where_it_is at) next
-    (damage_same (place.Message (queue.TreePu tree) bad.id) where_it_is at _ here there)
-    (intake_owes tree l root (tree_held root).cursor bad two.0 next (subst (λ (x : Result (List PuItem) Message). TakesItems (queue.TreePu tree) (tree_held root).cursor x two.0) read two.1) two.2)
+    let damage : Trouble = message_damage (queue.TreePu tree) bad in
+    owes_same damage (trouble.Damaged where_it_is at) next (damage_same (place.Message (queue.TreePu tree) bad.id) where_it_is at _ here there)
+    (stopping_owes (one_lease l) damage (bad_message_leads tree l root ms damage
+    (subst (λ (x : Result (List PuItem) Message). TakesItems (queue.TreePu tree) (tree_held root).cursor x (Err damage)) (sym read) refl)
+    (led tree w (work.Receiving l root) a (call.Received ms) next is e leads)))
 record_owes tree w a next t leads k = absurd k
 
 -- ---- inner nodes
-
-node_stops : (h : Held) (d : Descent) (bytes : List ℕ) (t : Trouble) → fork_of d bytes ≡ Err t → NextOwes (descending_on h (descent_got d (Ok (Some bytes)))) t
-node_stops h d bytes t e = subst (λ (x : Result Fork Trouble). NextOwes (descending_on h (got_node d bytes x)) t) (sym e) refl
 
 -- a page that is not there: page 1, or another one
 no_page_one : {d : Descent} {next : Next Descent (Unit {0})} → d.page ≡ 1 → Gets d (Ok None) next → IsStop (damaged d.chart.tree d.page 0) next
@@ -227,35 +249,33 @@ no_other_page : {d : Descent} {next : Next Descent (Unit {0})} → d.page ≢ 1 
 no_other_page other (way.no_root first) = absurd (other first)
 no_other_page other (way.absent e) = refl
 
--- the step from what a get of a node brought
-abbrev node_step : Held → Descent → Answer → Step
-node_step h d a = descending_on h (descent_got d (got_of a))
+-- bytes that lead nowhere
+node_stops : {d : Descent} {bytes : List ℕ} {next : Next Descent (Unit {0})} (t : Trouble) → way.Reads d bytes (Err t) → Gets d (Ok (Some bytes)) next → IsStop t next
+node_stops t r (way.goes_on bytes n f is leads on) = absurd (let clash : Ok f ≡ Err t = sym (reads_fork (way.leads n f is leads)) ∙ reads_fork r in cc (clash))
+node_stops t r (way.wrong bytes u s) = err_is u t (sym (reads_fork s) ∙ reads_fork r)
 
-node_by : (h : Held) (d : Descent) (a b : Answer) (t : Trouble) → a ≡ b → NextOwes (node_step h d b) t → NextOwes (node_step h d a) t
-node_by h d a b t e k = subst (λ (x : Answer). NextOwes (node_step h d x) t) (sym e) k
+node_got : {d : Descent} {next : Next Descent (Unit {0})} (t u : Trouble) (a : Answer) (got : Option (List ℕ)) → a ≡ call.Got got → t ≡ u
+    → (Gets d (Ok got) next → IsStop t next) → Gets d (got_of a) next → IsStop u next
+node_got {d = d} {next = next} t u a got e same stops g =
+    subst (λ (x : Trouble). IsStop x next) same (stops (subst (λ (x : Answer). Gets d (got_of x) next) e g))
 
-node_owes : (tree : ℕ) (h : Held) (d : Descent) (a : Answer) (t : Trouble) → d.chart.tree ≡ tree → BreaksNode tree d a t → NextOwes (node_step h d a) t
-node_owes tree h d a (trouble.Absent page) same (here, other, e) =
-    node_by h d a (call.Got None) (trouble.Absent page) e
-    (subst (NextOwes (node_step h d (call.Got None))) (ap trouble.Absent (sym here))
-    (down_owes h (trouble.Absent d.page) (descent_got d (Ok None)) (no_other_page (subst (λ (x : ℕ). x ≢ 1) here other) (gets d (Ok None)))))
-node_owes tree h d a (trouble.Damaged where_it_is at) same (here, inl (inl (first, there, e))) =
-    node_by h d a (call.Got None) (trouble.Damaged where_it_is at) e
-    (subst (NextOwes (node_step h d (call.Got None))) (page_same tree d.chart.tree d.page at 0 where_it_is same here there)
-    (down_owes h (damaged d.chart.tree d.page 0) (descent_got d (Ok None)) (no_page_one first (gets d (Ok None)))))
-node_owes tree h d a (trouble.Damaged where_it_is at) same (here, inl (inr (bytes, e, none, there))) =
-    node_by h d a (call.Got (Some bytes)) (trouble.Damaged where_it_is at) e
-    (node_stops h d bytes (trouble.Damaged where_it_is at)
-    (fork_none d bytes none ∙ ap Err (page_same tree d.chart.tree d.page at (offset inner_format bytes) where_it_is same here there)))
-node_owes tree h d a (trouble.Damaged where_it_is at) same (here, inr (there, (n, (bytes, e, some), other))) =
-    node_by h d a (call.Got (Some bytes)) (trouble.Damaged where_it_is at) e
-    (node_stops h d bytes (trouble.Damaged where_it_is at)
-    (fork_some d bytes n some ∙ (fork_level d n other ∙ ap Err (page_same tree d.chart.tree d.page at 10 where_it_is same here there))))
-node_owes tree h d a (trouble.BadFence page expected found) same (here, low, (n, (bytes, e, some), level, is, fence)) =
-    node_by h d a (call.Got (Some bytes)) (trouble.BadFence page expected found) e
-    (node_stops h d bytes (trouble.BadFence page expected found)
-    (fork_some d bytes n some ∙ (fork_fence d n level fence ∙ ap Err (fence_same d.page page d.low expected n.low found here low is))))
-node_owes tree h d a t same k = absurd k
+node_breaks : {next : Next Descent (Unit {0})} (tree : ℕ) (d : Descent) (a : Answer) (t : Trouble) → d.chart.tree ≡ tree → BreaksNode tree d a t → Gets d (got_of a) next → IsStop t next
+node_breaks tree d a (trouble.Absent page) same (here, other, e) =
+    node_got (trouble.Absent d.page) (trouble.Absent page) a None e (ap trouble.Absent (sym here)) (no_other_page (subst (λ (x : ℕ). x ≢ 1) here other))
+node_breaks tree d a (trouble.Damaged where_it_is at) same (here, inl (inl (first, there, e))) =
+    node_got (damaged d.chart.tree d.page 0) (trouble.Damaged where_it_is at) a None e (page_same tree d.chart.tree d.page at 0 where_it_is same here there) (no_page_one first)
+node_breaks tree d a (trouble.Damaged where_it_is at) same (here, inl (inr (bytes, e, none, there))) =
+    let damage : Trouble = damaged d.chart.tree d.page (offset inner_format bytes) in
+    node_got damage (trouble.Damaged where_it_is at) a (Some bytes) e
+    (page_same tree d.chart.tree d.page at (offset inner_format bytes) where_it_is same here there) (node_stops damage (way.no_node none))
+node_breaks tree d a (trouble.Damaged where_it_is at) same (here, inr (there, (n, (bytes, e, some), other))) =
+    let damage : Trouble = damaged d.chart.tree d.page 10 in
+    node_got damage (trouble.Damaged where_it_is at) a (Some bytes) e (page_same tree d.chart.tree d.page at 10 where_it_is same here there)
+    (node_stops damage (way.other_level n some other))
+node_breaks tree d a (trouble.BadFence page expected found) same (here, low, (n, (bytes, e, some), level, is, fence)) =
+    node_got (bad_fence d.page d.low n.low) (trouble.BadFence page expected found) a (Some bytes) e (fence_same d.page page d.low expected n.low found here low is)
+    (node_stops (bad_fence d.page d.low n.low) (way.other_low n some level fence))
+node_breaks tree d a t same k = absurd k
 
 -- ---- leaves
 
@@ -376,27 +396,35 @@ leaf_breaks tree t same nothing k w = absurd k
 
 -- ---- the way over nodes that were got before
 
-way_at : (h : Held) (start : Descent) (t : Trouble) (e : Descent) → arrive start ≡ Stops e t → NextOwes (descending_on h (arrive start)) t
-way_at h start t e stops = subst (λ (x : Next Descent (Unit {0})). NextOwes (descending_on h x) t) (sym stops) refl
+way_at : {next : Next Descent (Unit {0})} (t : Trouble) → (e : Descent) × (next ≡ Stops e t) → IsStop t next
+way_at t (e, stops) = subst (IsStop t) (sym stops) refl
+
+-- behind a node that is what the link to it promised
+over_stops : {d : Descent} {bytes : List ℕ} {n : Inner} {next : Next Descent (Unit {0})} (t : Trouble) → inner_of bytes ≡ Some n → way.Leads d n (forked_on d.chart.key n)
+    → (Arrives (behind (with_node d bytes) n) next → IsStop t next) → Gets d (Ok (Some bytes)) next → IsStop t next
+over_stops {d = d} {n = n} {next = next} t is leads stops (way.goes_on bytes m f reads on there) =
+    let both : Some m ≡ Some n = sym reads ∙ is in
+    let same : m ≡ n = cc (both) in
+    stops (subst (λ (x : Fork). Arrives (passed (with_node d bytes) x) next) (on.forked ∙ ap (forked_on d.chart.key) same) there)
+over_stops {d = d} {n = n} t is leads stops (way.wrong bytes u r) =
+    absurd (let clash : Ok (forked_on d.chart.key n) ≡ Err u = sym (reads_fork (way.leads n (forked_on d.chart.key n) is leads)) ∙ reads_fork r in cc (clash))
 
 way_owes : (tree : ℕ) (w : Work) (cs : Calls) (a : Answer) (next : Step) (t : Trouble) → KnowsAt tree w cs → Leads tree w a next → BreaksWay tree w a t → NextOwes next t
 way_owes tree w cs a next t knows leads (d, inl b, breaks) =
     let known : KnowsAt tree (work.Descending b.held b.from) cs = subst (λ (x : Work). KnowsAt tree x cs) b.stands knows in
-    let one : Leads tree (work.Descending b.held b.from) a next = subst (λ (x : Work). Leads tree x a next) b.stands leads in
     let start : Descent = behind (with_node b.from b.bytes) b.node in
     let keeps = behind_keeps (with_node b.from b.bytes) b.bytes b.node b.reads in
-    let stops = way_stops tree start t (keeps.tree ∙ known.chart.same) keeps.upto (subst (λ (x : Descent). BreaksFrom tree x t) b.leads breaks) in
-    owes_by t next _ one
-    (node_by b.held b.from a (call.Got (Some b.bytes)) t b.brought
-    (subst (λ (x : Result Fork Trouble). NextOwes (descending_on b.held (got_node b.from b.bytes x)) t)
-    (sym (fork_some b.from b.bytes b.node b.reads ∙ fork_promised b.from b.node known.upto b.promised)) (way_at b.held start t stops.0 stops.1)))
+    down_owes tree next t tt (step.goes_on b.held b.from (call.Got (Some b.bytes)))
+    (over_stops {d = b.from} t b.reads (promised_leads b.from b.bytes b.node known.upto b.reads b.promised)
+    (λ on. way_at t (way_stops tree start t _ (keeps.tree ∙ known.chart.same) keeps.upto (subst (λ (x : Descent). BreaksFrom tree x t) b.leads breaks) on))
+    (gets b.from (Ok (Some b.bytes))))
+    (led tree w (work.Descending b.held b.from) a (call.Got (Some b.bytes)) next b.stands b.brought leads)
 way_owes tree w cs a next t knows leads (d, inr b, breaks) =
     let known : KnowsAt tree (work.ReleasingPage b.held b.lease (onward.Handled b.chart)) cs = subst (λ (x : Work). KnowsAt tree x cs) b.stands knows in
-    let one : Leads tree (work.ReleasingPage b.held b.lease (onward.Handled b.chart)) a next = subst (λ (x : Work). Leads tree x a next) b.stands leads in
     let c : Chart = record b.chart { key = b.key } in
-    let stops = way_stops tree (from_root c) t known.same (root_upto c) (subst (λ (x : Descent). BreaksFrom tree x t) b.leads breaks) in
-    owes_by t next _ one
-    (subst (λ (key : Option (List ℕ)). NextOwes (going_by b.held b.chart key) t) (sym b.next) (way_at b.held (from_root c) t stops.0 stops.1))
+    down_owes tree next t tt (step.begins b.key (step.from_leaf b.held b.lease b.chart a) b.next)
+    (way_at t (way_stops tree (from_root c) t _ known.same (root_upto c) (subst (λ (x : Descent). BreaksFrom tree x t) b.leads breaks) (arrives (from_root c))))
+    (led tree w (work.ReleasingPage b.held b.lease (onward.Handled b.chart)) a a next b.stands refl leads)
 
 -- ---- what is spent
 
@@ -429,14 +457,11 @@ unplanned_stops {f = f} t got l holds k r = on got holds r where
 up_goes : (tree : ℕ) (w : Work) (a : Answer) (next : Step) (t : Trouble) (up : Rising) → Leads tree w a next → IsUp w a up
     → ((x : RisingStep) → Rises up x → IsStop t x) → NextOwes next t
 up_goes tree w a next t up leads (inl b) stops =
-    let one : Leads tree (work.ReleasingPage b.held b.lease (onward.Handled b.chart)) a next = subst (λ (x : Work). Leads tree x a next) b.stands leads in
-    owes_by t next _ one
-    (subst (λ (key : Option (List ℕ)). NextOwes (going_by b.held b.chart key) t) (sym b.none)
-    (up_owes b.held t (rise (rising.begun b.chart)) (subst (λ (r : Rising). IsStop t (rise r)) b.is (stops (rise up) (rises up)))))
+    up_owes tree next t tt (step.begins_up (step.from_leaf b.held b.lease b.chart a) b.none) (subst (λ (r : Rising). IsStop t (rise r)) b.is (stops (rise up) (rises up)))
+    (led tree w (work.ReleasingPage b.held b.lease (onward.Handled b.chart)) a a next b.stands refl leads)
 up_goes tree w a next t up leads (inr g) stops =
-    let one : Leads tree (work.Rising g.held g.from) a next = subst (λ (x : Work). Leads tree x a next) g.stands leads in
-    let two : Leads tree (work.Rising g.held g.from) call.Done next = subst (λ (x : Answer). Leads tree (work.Rising g.held g.from) x next) g.put one in
-    owes_by t next _ two (up_owes g.held t (rising.put_landed g.from) (on (climb.lands g.from (Ok tt)))) where
+    up_owes tree next t tt (step.goes_up g.held g.from call.Done) (on (climb.lands g.from (Ok tt)))
+    (led tree w (work.Rising g.held g.from) a call.Done next g.stands g.put leads) where
       on : {x : RisingStep} → climb.Lands g.from (Ok tt) x → IsStop t x
       on (climb.is_last y none) = absurd (let some = g.some in cc (none, some))
       on (climb.more y some more) =
@@ -473,13 +498,13 @@ DueStops (RootDue root links top) t = plan_of root (risen_by root.level links to
 due_owes : (tree : ℕ) (w : Work) (a : Answer) (next : Step) (t : Trouble) → Leads tree w a next → (due : Due) → IsDue w a due → DueStops due t → NextOwes next t
 unfolding DueStops
 due_owes tree w a next t leads (LeafDue root l run) is stops =
-    let one : Leads tree (work.Folding is.held is.from) a next = subst (λ (x : Work). Leads tree x a next) is.stands leads in
     let planned : leaf_plan (tree_held is.from.chart.root) is.from.page l is.from.chart.run.items ≡ Err t =
     sym (ap (λ (r : Tree). leaf_plan r is.from.page l run) is.root_is ∙ ap (leaf_plan (tree_held is.from.chart.root) is.from.page l) is.run_is) ∙ stops is.from.page in
     let at = gets_held is.from.page a l is.gets in
-    owes_by t next _ one (leaf_owes is.held t (folding_next is.from a)
+    leaf_owes tree next is.held is.from a t
     (got_stops {f = is.from} t at.0 at.1 is.nothing
-    (unplanned_stops {f = is.from} t at.0 l at.2 (record { promised = is.promised; stays = is.stays; lacks = is.lacks; unplanned = planned })) (works is.from a)))
+    (unplanned_stops {f = is.from} t at.0 l at.2 (record { promised = is.promised; stays = is.stays; lacks = is.lacks; unplanned = planned })) (works is.from a))
+    (led tree w (work.Folding is.held is.from) a a next is.stands refl leads)
 due_owes tree w a next t leads (NodeDue root n links) is stops =
     let up : Rising = is.up in
     let planned : node_plan (tree_held up.chart.root) up.chart.tree is.kept up.chart.links ≡ Err t =
@@ -510,9 +535,8 @@ full_stops (RootDue root links top) s = last_plan_full root links top s
 -- behind the last piece there is no version for the tree object
 short_owes : (tree : ℕ) (w : Work) (a : Answer) (next : Step) → Leads tree w a next → IsCutShort w a → NextOwes next version_spent
 short_owes tree w a next leads is =
-    let one : Leads tree (work.Rising is.held is.from) a next = subst (λ (x : Work). Leads tree x a next) is.stands leads in
-    let two : Leads tree (work.Rising is.held is.from) call.Done next = subst (λ (x : Answer). Leads tree (work.Rising is.held is.from) x next) is.put one in
-    owes_by version_spent next _ two (up_owes is.held version_spent (rising.put_landed is.from) (on (climb.lands is.from (Ok tt)))) where
+    up_owes tree next version_spent tt (step.goes_up is.held is.from call.Done) (on (climb.lands is.from (Ok tt)))
+    (led tree w (work.Rising is.held is.from) a call.Done next is.stands is.put leads) where
       on : {x : RisingStep} → climb.Lands is.from (Ok tt) x → IsStop version_spent x
       on (climb.is_last y none) = absurd (let some = is.some in cc (none, some))
       on (climb.more y some more) =
@@ -535,15 +559,13 @@ at_node : (tree : ℕ) (h : Held) (d : Descent) (w : Work) (cs : Calls) (a : Ans
     → Leads tree w a next → BreaksNode tree d a t → NextOwes next t
 at_node tree h d w cs a next t is knows leads k =
     let known : KnowsAt tree (work.Descending h d) cs = subst (λ (x : Work). KnowsAt tree x cs) is knows in
-    let e : Leads tree (work.Descending h d) a next = subst (λ (x : Work). Leads tree x a next) is leads in
-    owes_by t next _ e (node_owes tree h d a t known.chart.same k)
+    down_owes tree next t tt (step.goes_on h d a) (node_breaks tree d a t known.chart.same k (gets d (got_of a))) (led tree w (work.Descending h d) a a next is refl leads)
 
 at_leaf : (tree : ℕ) (h : Held) (f : Folding) (w : Work) (cs : Calls) (a : Answer) (next : Step) (t : Trouble) → w ≡ work.Folding h f
     → has_nothing f.placing ≡ true → KnowsAt tree w cs → Leads tree w a next → BreaksLeaf tree f a t → NextOwes next t
 at_leaf tree h f w cs a next t is nothing knows leads k =
     let known : KnowsAt tree (work.Folding h f) cs = subst (λ (x : Work). KnowsAt tree x cs) is knows in
-    let e : Leads tree (work.Folding h f) a next = subst (λ (x : Work). Leads tree x a next) is leads in
-    owes_by t next _ e (leaf_owes h t (folding_next f a) (leaf_breaks tree t known.chart.same nothing k (works f a)))
+    leaf_owes tree next h f a t (leaf_breaks tree t known.chart.same nothing k (works f a)) (led tree w (work.Folding h f) a a next is refl leads)
 
 demanded_owes : (m : Making) (h : List Deed) (a : Answer) (next : Step) (t : Trouble) → Stands m h → KnowsAt m.tree m.work (calls_of h)
     → Fits (making_ask m) a → Leads m.tree m.work a next → Demands m.tree m.work a t → NextOwes next t
@@ -557,18 +579,12 @@ demanded_owes m h a next t s knows fits leads (inr (inr (inr (inr (inr (inl k)))
 demanded_owes m h a next t s knows fits leads (inr (inr (inr (inr (inr (inr k)))))) = spent_owes m.tree m.work a next t leads k
 
 -- a trouble that was kept stays until it is answered
-finished_owes : (held : Leases) (end : Result CkptAnswer Trouble) (lease : Option Claim) (t : Trouble) → kept_trouble (work.Releasing held end) ≡ Some t
-    → NextOwes (released_by held end lease) t
-finished_owes held (Ok x) lease t e = absurd (cc (e))
-finished_owes held (Err u) (Some l) t e = e
-finished_owes held (Err u) None t e = cc (e)
-
 kept_owes : (tree : ℕ) (w : Work) (a : Answer) (next : Step) (t : Trouble) → Leads tree w a next → kept_trouble w ≡ Some t → NextOwes next t
-kept_owes tree (work.Releasing held end) a next t leads kept =
-    owes_by t next _ leads (finished_owes (without_newest held) end (newest_lease (without_newest held)) t (kept_on end kept)) where
-      kept_on : (x : Result CkptAnswer Trouble) → kept_trouble (work.Releasing held x) ≡ Some t → kept_trouble (work.Releasing (without_newest held) x) ≡ Some t
-      kept_on (Ok x) e = absurd (cc (e))
-      kept_on (Err u) e = e
+kept_owes tree (work.Releasing held (Ok x)) a next t leads kept = absurd (cc (kept))
+kept_owes tree (work.Releasing held (Err u)) a next t leads kept = owes_same u t next (some_is u t kept) (on (kept_leads tree held u a leads)) where
+  on : (next ≡ stopping (without_newest held) u) ⊎ (next ≡ Stops work.Finished u) → NextOwes next u
+  on (inl e) = stopping_owes (without_newest held) u e
+  on (inr e) = stops_owe u e
 kept_owes tree w a next t leads kept = absurd (cc (kept))
 
 step_owes : (m : Making) (h : List Deed) (a : Answer) (next : Step) (t : Trouble) → Stands m h → KnowsAt m.tree m.work (calls_of h) → Fits (making_ask m) a

@@ -3,6 +3,7 @@ pub mod Leading
 pub mod Leaving
 pub mod Words
 pub mod Outcomes
+pub mod Failing
 pub mod LeafOutcomes
 pub mod RiseOutcomes
 pub mod WayOutcomes

@@ -1,24 +1,21 @@
 -- A way that is stopped at a node that was got before stops the walk there.
-use Rattle.std.proofs.Common.{◌≡◌, ◌≢◌, ℕ, Bool, true, false, cond, List, [], ◌∷◌, Option, Some, None, Result, Ok, Err, refl, sym, ap, subst, ◌∙◌}
-use Rattle.std.specs.Prelude.{◌&&◌, not}
-use Rattle.std.proofs.lemmas.Bool.{eq-eqb, ne_eqb}
-use Rattle.byte_format.specs.Order.{bytes_below, bytes_same}
-use Rattle.byte_format.specs.Whole.{offset}
+use Rattle.std.proofs.Common.{◌≡◌, ◌≢◌, ℕ, true, false, List, [], ◌∷◌, Some, None, Result, Ok, Err, refl, sym, ap, subst, ◌∙◌}
+use Rattle.byte_format.specs.Order.{bytes_below}
 use Rattle.byte_format.proofs.OrderLemmas.{same_is}
 use Rattle.db_base.specs.declared.names.ObjName.TheVariants as object
 use Rattle.db_base.specs.declared.names.Place.{Place}
 use Rattle.db_base.specs.declared.names.Place.TheVariants as place
 use Rattle.db_base.specs.declared.trouble.Trouble.TheVariants as trouble
-use Rattle.node_codec.specs.Inner.{Inner, inner_of, inner_format}
+use Rattle.node_codec.specs.Inner.{Inner, inner_of}
 use Rattle.run_cursor.specs.Covered.{is_seen}
-use Rattle.tree_phases.specs.Read.{damaged, inner_or}
+use Rattle.tree_phases.specs.Read.{damaged}
 use Rattle.tree_phases.specs.declared.fork.Fork.TheVariants.{Right, Down}
 use Rattle.tree_phases.specs.Fork.{bad_fence, forked_on}
-use Rattle.tree_phases.specs.Descent.{forked, forked_by, fork_of, passed, kept_at, arrive}
+use Rattle.tree_phases.specs.Descent.{fork_of, passed, kept_at}
 use Rattle.tree_ckpt.specs.Way.{IsFresh, WasKept, IsPromised, behind, ComesOver, BreaksAt, BreaksFrom}
 use Rattle.tree_ckpt.proofs.Words.{Trouble, Next, Stops, KeptNode, Descent, Fork}
 use Rattle.tree_ckpt.proofs.Lows.{ComesUpto, passed_upto}
-use Rattle.tree_ckpt.proofs.WayOutcomes.{Arrives, node_leads, arrives}
+use Rattle.tree_ckpt.proofs.WayOutcomes.{Leads, Reads, Arrives, node_leads, reads_fork}
 use Rattle.tree_ckpt.proofs.WayOutcomes as way
 
 -- ---- damage at a place
@@ -39,30 +36,14 @@ fence_same mine page low expected here found one two three =
 
 -- ---- a node
 
-pub fork_none : (d : Descent) (bytes : List ℕ) → inner_of bytes ≡ None → fork_of d bytes ≡ Err (damaged d.chart.tree d.page (offset inner_format bytes))
-fork_none d bytes e = ap (λ (o : Option Inner). forked_by d (inner_or d.chart.tree d.page (offset inner_format bytes) o)) e
-
-pub fork_some : (d : Descent) (bytes : List ℕ) (n : Inner) → inner_of bytes ≡ Some n → fork_of d bytes ≡ forked d n
-fork_some d bytes n e = ap (λ (o : Option Inner). forked_by d (inner_or d.chart.tree d.page (offset inner_format bytes) o)) e
-
--- of a node: whether its level is the one, and whether its fence is
-abbrev fork_by : Descent → Inner → Bool → Bool → Result Fork Trouble
-fork_by d n level fence =
-    cond level (cond fence (Ok (forked_on d.chart.key n)) (Err (bad_fence d.page d.low n.low))) (Err (damaged d.chart.tree d.page 10))
-
-pub fork_level : (d : Descent) (n : Inner) → n.level ≢ d.level → forked d n ≡ Err (damaged d.chart.tree d.page 10)
-fork_level d n other = ap (λ (b : Bool). fork_by d n b (bytes_same n.low d.low && not (bytes_below d.chart.key n.low))) (ne_eqb n.level d.level other)
-
-pub fork_fence : (d : Descent) (n : Inner) → n.level ≡ d.level → bytes_same n.low d.low ≡ false → forked d n ≡ Err (bad_fence d.page d.low n.low)
-fork_fence d n level fence =
-    ap (λ (b : Bool). fork_by d n b (bytes_same n.low d.low && not (bytes_below d.chart.key n.low))) (eq-eqb n.level d.level level)
-    ∙ ap (λ (b : Bool). fork_by d n true (b && not (bytes_below d.chart.key n.low))) fence
-
-pub fork_promised : (d : Descent) (n : Inner) → ComesUpto d → IsPromised d n → forked d n ≡ Ok (forked_on d.chart.key n)
-fork_promised d n upto is =
-    ap (λ (b : Bool). fork_by d n b (bytes_same n.low d.low && not (bytes_below d.chart.key n.low))) (eq-eqb n.level d.level is.0)
-    ∙ (ap (λ (b : Bool). fork_by d n true (b && not (bytes_below d.chart.key n.low))) is.1
-    ∙ ap (λ (b : Bool). fork_by d n true (not b)) (ap (bytes_below d.chart.key) (same_is n.low d.low is.1) ∙ upto))
+-- a node that is what the link to it promised leads on
+pub promised_leads : (d : Descent) (bytes : List ℕ) (n : Inner) → ComesUpto d → inner_of bytes ≡ Some n → IsPromised d n → Leads d n (forked_on d.chart.key n)
+promised_leads d bytes n upto is promised = record {
+  promised = promised;
+  upto = ap (bytes_below d.chart.key) (same_is n.low d.low promised.1) ∙ upto;
+  forked = refl;
+  leads = node_leads d.chart.key bytes n is;
+}
 
 -- ---- behind a node
 
@@ -110,7 +91,8 @@ comes_over {next = next} start e (n ∷ ns) upto comes on =
     let d : Descent = comes.0 in
     let there : ComesThere next start d = comes_over start d ns upto comes.1 on in
     let kept : WasKept d n = comes.2.1 in
-    let forks : fork_of d kept.0.bytes ≡ Ok (forked_on d.chart.key n) = fork_some d kept.0.bytes n kept.2 ∙ fork_promised d n there.keeps.upto comes.2.2 in
+    let forks : fork_of d kept.0.bytes ≡ Ok (forked_on d.chart.key n) =
+    reads_fork (way.leads n (forked_on d.chart.key n) kept.2 (promised_leads d kept.0.bytes n there.keeps.upto kept.2 comes.2.2)) in
     let keeps : KeepsWay d (behind d n) = behind_keeps d kept.0.bytes n kept.2 in
     subst (ComesThere next start) (sym comes.2.3) (record {
       arrives = subst (OnwardFrom d next) forks (at_kept kept.0 comes.2.0 kept.1 there.arrives);
@@ -128,20 +110,21 @@ stops_round inner seen (way.breaks d k t fresh at e r) = absurd (let clash : tru
 stops_round inner seen (way.further d k f p on) = absurd (let clash : true ≡ false = sym seen ∙ p.fresh.1 in cc (clash))
 
 -- a node that is not what the link to it promised
-stops_kept : (d : Descent) (n : Inner) (t : Trouble) (next : Next Descent (Unit {0})) → IsFresh d → WasKept d n → forked d n ≡ Err t → Arrives d next → next ≡ Stops d t
-stops_kept d n t next fresh kept e on = subst (OnwardFrom d next) (fork_some d kept.0.bytes n kept.2 ∙ e) (at_kept kept.0 fresh kept.1 on)
+stops_kept : {d : Descent} {n : Inner} {next : Next Descent (Unit {0})} (t u : Trouble) (fresh : IsFresh d) (kept : WasKept d n) → t ≡ u → Reads d kept.0.bytes (Err t) → Arrives d next
+    → next ≡ Stops d u
+stops_kept {d = d} {next = next} t u fresh kept e r on = subst (OnwardFrom d next) (reads_fork r) (at_kept kept.0 fresh kept.1 on) ∙ ap (Stops d) e
 
 stops_at : (tree : ℕ) (d : Descent) (t : Trouble) (next : Next Descent (Unit {0})) → d.chart.tree ≡ tree → BreaksAt tree d t → Arrives d next → next ≡ Stops d t
-stops_at tree d (trouble.Damaged where_it_is at) next same b on =
-    stops_kept d b.1.0 (trouble.Damaged where_it_is at) next b.0 b.1.1 (fork_level d b.1.0 b.1.2 ∙ ap Err (page_same tree d.chart.tree d.page at 10 where_it_is same b.2 b.3)) on
-stops_at tree d (trouble.BadFence page expected found) next same b on =
-    stops_kept d b.1.0 (trouble.BadFence page expected found) next b.0 b.1.1
-    (fork_fence d b.1.0 b.1.2 b.1.4 ∙ ap Err (fence_same d.page page d.low expected b.1.0.low found b.2 b.3 b.1.3)) on
+stops_at tree d (trouble.Damaged where_it_is at) next same (fresh, (n, kept, other), there, is) on =
+    stops_kept {n = n} (damaged d.chart.tree d.page 10) (trouble.Damaged where_it_is at) fresh kept (page_same tree d.chart.tree d.page at 10 where_it_is same there is)
+    (way.other_level n kept.2 other) on
+stops_at tree d (trouble.BadFence page expected found) next same (fresh, (n, kept, level, is, fence), here, low) on =
+    stops_kept {n = n} (bad_fence d.page d.low n.low) (trouble.BadFence page expected found) fresh kept (fence_same d.page page d.low expected n.low found here low is)
+    (way.other_low n kept.2 level fence) on
 stops_at tree d (trouble.Loop page) next same b on = stops_round b.0 b.1 on ∙ ap (λ (p : ℕ). Stops d (trouble.Loop p)) (sym b.2)
 stops_at tree d t next same b on = absurd b
 
-pub way_stops : (tree : ℕ) (start : Descent) (t : Trouble) → start.chart.tree ≡ tree → ComesUpto start → BreaksFrom tree start t
-    → (e : Descent) × (arrive start ≡ Stops e t)
-way_stops tree start t same upto (e, ns, comes, breaks) =
-    let there : ComesThere (arrive start) start e = comes_over start e ns upto comes (arrives start) in
-    (e, stops_at tree e t (arrive start) (there.keeps.tree ∙ same) breaks there.arrives)
+pub way_stops : (tree : ℕ) (start : Descent) (t : Trouble) (next : Next Descent (Unit {0})) → start.chart.tree ≡ tree → ComesUpto start → BreaksFrom tree start t → Arrives start next
+    → (e : Descent) × (next ≡ Stops e t)
+way_stops tree start t next same upto (e, ns, comes, breaks) on =
+    let there : ComesThere next start e = comes_over start e ns upto comes on in (e, stops_at tree e t next (there.keeps.tree ∙ same) breaks there.arrives)

@@ -1,7 +1,7 @@
 -- What a way down comes to, whatever branches led there: it goes on over nodes that were got before, to a node that is to be got or to a leaf.
 use Rattle.std.proofs.Common.{◌≡◌, ◌≢◌, ◌<◌, ◌≤◌, ℕ, zero, suc, Bool, true, false, cond, List, length, Option, Some, None, Result, Ok, Err, refl, sym, ap, ◌∙◌, arith}
 use Rattle.std.specs.Prelude.{◌==◌, ◌&&◌, not}
-use Rattle.std.proofs.lemmas.Bool.{eqb-true, eqb-false}
+use Rattle.std.proofs.lemmas.Bool.{eqb-true, eqb-false, eq-eqb, ne_eqb}
 use Rattle.byte_format.specs.Order.{below_bound, bytes_below, bytes_same}
 use Rattle.byte_format.specs.Whole.{offset}
 use Rattle.db_base.specs.declared.trouble.Trouble.TheVariants as trouble
@@ -159,3 +159,30 @@ gets d (Ok None) = on (d.page == 1) refl where
   on true e = no_root (eqb-true d.page 1 e)
   on false e = absent (eqb-false d.page 1 e)
 gets d (Err t) = refused t
+
+-- ---- .. and back: where the bytes of a node lead, by what they come to
+
+-- of a node: whether its level is the one, whether its low key is, and whether the key lies below it
+abbrev fork_by : Descent → Inner → Bool → Bool → Bool → Result Fork Trouble
+fork_by d n level same below =
+    cond level (cond (same && not below) (Ok (forked_on d.chart.key n)) (Err (bad_fence d.page d.low n.low))) (Err (damaged d.chart.tree d.page 10))
+
+-- where the bytes lead that spell a node, or none
+spells : (d : Descent) (bytes : List ℕ) (o : Option Inner) → inner_of bytes ≡ o → fork_of d bytes ≡ forked_by d (inner_or d.chart.tree d.page (offset inner_format bytes) o)
+spells d bytes o e = ap (λ (x : Option Inner). forked_by d (inner_or d.chart.tree d.page (offset inner_format bytes) x)) e
+
+of_level : (d : Descent) (n : Inner) → n.level ≡ d.level → forked d n ≡ fork_by d n true (bytes_same n.low d.low) (bytes_below d.chart.key n.low)
+of_level d n level = ap (λ (b : Bool). fork_by d n b (bytes_same n.low d.low) (bytes_below d.chart.key n.low)) (eq-eqb n.level d.level level)
+
+promises : (d : Descent) (n : Inner) (below : Bool) → IsPromised d n → bytes_below d.chart.key n.low ≡ below → forked d n ≡ fork_by d n true true below
+promises d n below is e =
+    of_level d n is.0 ∙ (ap (λ (b : Bool). fork_by d n true b (bytes_below d.chart.key n.low)) is.1 ∙ ap (fork_by d n true true) e)
+
+pub reads_fork : {d : Descent} {bytes : List ℕ} {r : Result Fork Trouble} → Reads d bytes r → fork_of d bytes ≡ r
+reads_fork {d = d} {bytes = bytes} (no_node none) = spells d bytes None none
+reads_fork {d = d} {bytes = bytes} (other_level n is other) =
+    spells d bytes (Some n) is ∙ ap (λ (b : Bool). fork_by d n b (bytes_same n.low d.low) (bytes_below d.chart.key n.low)) (ne_eqb n.level d.level other)
+reads_fork {d = d} {bytes = bytes} (other_low n is level other) =
+    spells d bytes (Some n) is ∙ (of_level d n level ∙ ap (λ (b : Bool). fork_by d n true b (bytes_below d.chart.key n.low)) other)
+reads_fork {d = d} {bytes = bytes} (too_high n is promised below) = spells d bytes (Some n) is ∙ promises d n true promised below
+reads_fork {d = d} {bytes = bytes} (leads n f is on) = spells d bytes (Some n) is ∙ (promises d n false on.promised on.upto ∙ ap Ok (sym on.forked))

@@ -19,7 +19,7 @@ use Rattle.ckpt_parts.specs.Leasing.{without_newest}
 use Rattle.run_cursor.specs.Covered.{is_seen}
 use Rattle.tree_phases.specs.Placing.{put_in_hand, has_nothing}
 use Rattle.tree_phases.specs.Read.{tree_held}
-use Rattle.tree_phases.specs.Descent.{with_node, descent_next}
+use Rattle.tree_phases.specs.Descent.{with_node}
 use Rattle.tree_phases.specs.declared.folding.Left.TheVariants.{Right, Handled}
 use Rattle.tree_phases.specs.Folding.{folding_ask, folding_next}
 use Rattle.tree_phases.specs.Rising as rise
@@ -46,7 +46,9 @@ use Rattle.tree_ckpt.proofs.RiseOutcomes.{IsRising}
 use Rattle.tree_ckpt.proofs.RiseOutcomes as climb
 use Rattle.tree_ckpt.proofs.Rises.{KnowsSpent, UpSpends, RiseTells, PutStops, PutTells, rise_tells, rise_put_tells}
 use Rattle.tree_ckpt.proofs.Spent.{IsSpentFor}
-use Rattle.tree_ckpt.proofs.Ways.{KnowsWay, WayTells, NodeBreaks, GotTells, down_tells, node_got_tells}
+use Rattle.tree_ckpt.proofs.Ways.{KnowsWay, WayTells, NodeBreaks, GotTells, down_tells, gets_tell}
+use Rattle.tree_ckpt.proofs.WayOutcomes.{Gets, gets}
+use Rattle.tree_ckpt.proofs.WayOutcomes as way
 
 -- ---- what is known where it stands
 
@@ -369,16 +371,13 @@ node_told tree cs a h d (Stops e t) k = (λ other. on k.1, k.0) where
         from,
       ))))))
 
-descent_told : (tree : ℕ) (cs : Calls) (h : Held) (d : Descent) (a : Answer) → KnowsWay tree d cs → Fits (node_ask h d) a
-    → DescentTold tree (work.Descending h d) cs a (descent_next d a)
-descent_told tree cs h d (call.Got got) k fits =
-    let new : Brings (object.Page tree d.page) got (node_ask h d, call.Got got) = page_brings tree d.chart.tree d.page h.lease got (call.Got got) k.chart.same refl in
-    node_told tree cs (call.Got got) h d (descent_next d (call.Got got))
-    (node_got_tells tree (now (node_ask h d) (call.Got got) cs) (node_ask h d) (call.Got got) d got (way_later tree d _ cs k) (inl new) new)
-descent_told tree cs h d (call.Late until now) k fits = (λ other. inl refl, refl)
-descent_told tree cs h d call.Failed k fits = (λ other. inl (refl, tt), refl)
-descent_told tree cs h d call.Memory k fits = (no_memory, tt)
-descent_told tree cs h d a k fits = absurd fits
+descent_told : {next : Next Descent (Unit {0})} (tree : ℕ) (cs : Calls) (h : Held) (d : Descent) (a : Answer) (g : Result (Option (List ℕ)) Trouble) → KnowsWay tree d cs
+    → Fits (node_ask h d) a → got_of a ≡ g → Gets d g next → DescentTold tree (work.Descending h d) cs a next
+descent_told {next = next} tree cs h d a (Ok got) k fits e gets =
+    let new : Brings (object.Page tree d.page) got (node_ask h d, a) = page_brings tree d.chart.tree d.page h.lease got a k.chart.same (got_of-ok a got e) in
+    node_told tree cs a h d next (gets_tell tree (now (node_ask h d) a cs) (node_ask h d) a (way_later tree d _ cs k) (inl new) new gets)
+descent_told tree cs h d a (Err u) k fits e (way.refused t) =
+    let m = get_missed tree (now (node_ask h d) a cs) (object.Page d.chart.tree d.page) h.lease a t fits e in (λ other. inl (m.0 other), m.1)
 
 -- the chart whose next key is sought
 seeks_knows : {tree : ℕ} {w : Work} {a : Answer} {h : Held} {c : Chart} (cs : Calls) → KnowsAt tree w cs → Seeks tree w a h c → Charted tree c (now (work_ask tree w) a cs)
@@ -409,7 +408,7 @@ descends_told {tree = tree} {w = w} {a = a} cs k fits (step.begins {c = c} key s
     let keyed : Chart = record c { key = key } in
     way_told tree w cs a (from_root keyed) (down_from keyed (root_entry keyed)) (seeks_breaks cs key k s e)
     (down_tells tree (now (work_ask tree w) a cs) (work_ask tree w) a keyed (key_known tree c key (now (work_ask tree w) a cs) (seeks_knows cs k s)))
-descends_told {tree = tree} cs k fits (step.goes_on h d a) = descent_told tree cs h d a k fits
+descends_told {tree = tree} cs k fits (step.goes_on h d a) = descent_told tree cs h d a (got_of a) k fits refl (gets d (got_of a))
 
 -- the way up begins behind the last leaf, as a run has a first key
 seeks_up : {tree : ℕ} {w : Work} {a : Answer} {h : Held} {c : Chart} (cs : Calls) → KnowsAt tree w cs → Seeks tree w a h c → next_key c ≡ None → IsUp w a (rise.begun c)

@@ -17,11 +17,11 @@ use Rattle.tree_phases.specs.Read.{tree_held}
 use Rattle.tree_phases.specs.Reserve.{reservation, version_spent}
 use Rattle.tree_phases.specs.declared.folding.Left.TheVariants.{Right, Handled}
 use Rattle.tree_phases.specs.Plan as plan
-use Rattle.tree_phases.specs.Folding.{FoldingStep, leaf_got, folding_next}
+use Rattle.tree_phases.specs.Folding.{FoldingStep, folding_next}
 use Rattle.tree_ckpt.specs.End.{unhandled, behind_key, from_on_or_none}
 use Rattle.tree_ckpt.specs.Leases.{IsPlanned}
 use Rattle.tree_ckpt.proofs.Words.{Trouble, PuItem, Answer, Goes, Ends, Stops, PagePut, Chart, Reserved, Folding, PagePlan}
-use Rattle.tree_ckpt.proofs.LeafOutcomes.{Reads, Lands, Works, reads, put_lands, works}
+use Rattle.tree_ckpt.proofs.LeafOutcomes.{Reads, Lands, Works, works}
 use Rattle.tree_ckpt.proofs.LeafOutcomes as step
 use Rattle.tree_ckpt.proofs.Keys.{from_above}
 
@@ -95,9 +95,6 @@ reads_leave {f = f} (step.plans got l x xs p here some e) =
     let more : length (f.chart.links ++ links_at 1 p.entries) ≡ length f.chart.links + length (links_at 1 p.entries) = length-append f.chart.links (links_at 1 p.entries) in
     (record { left = handled_left f l.high here.below; nodes = omega arith; links = omega (arith, more) }, plan_some (tree_held f.chart.root) f.page l f.chart.run.items p e)
 reads_leave c = tt
-
-pub got_leaves : (f : Folding) (got : Result (Option (List ℕ)) Trouble) → GetLeaves f (leaf_got f got)
-got_leaves f got = reads_leave (reads f got)
 
 -- ---- a put
 

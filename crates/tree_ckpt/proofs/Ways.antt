@@ -11,7 +11,7 @@ use Rattle.cloud_trait.specs.declared.answer.Answer.TheVariants as call
 use Rattle.tree_phases.specs.Read.{damaged, tree_held}
 use Rattle.tree_phases.specs.declared.fork.Fork.TheVariants.{Right, Down}
 use Rattle.tree_phases.specs.Fork.{bad_fence}
-use Rattle.tree_phases.specs.Descent.{passed, kept_at, with_node, descent_got}
+use Rattle.tree_phases.specs.Descent.{passed, kept_at, with_node}
 use Rattle.tree_ckpt.specs.Moves.{root_entry, down_from}
 use Rattle.tree_ckpt.specs.Causes.{Calls, Brings, WasGot, WasNode, Shows}
 use Rattle.tree_ckpt.specs.Way.{IsFresh, IsPromised, behind, ComesOver, BreaksAt, BreaksFrom, from_root}
@@ -144,7 +144,7 @@ module _ (tree : ℕ) (cs : Calls) (ask : Ask) (a : Answer) where
   got_way d bytes n f new is l (Stops e t) k =
       (k.0, inr (bytes, n, new, is, l.promised, subst (λ (g : Fork). BreaksFrom tree (passed (with_node d bytes) g) t) l.forked k.1))
 
-  gets_tell : {d : Descent} {got : Option (List ℕ)} {next : Next Descent (Unit {0})} → KnowsWay tree d cs → WasGot (object.Page tree d.page) got cs
+  pub gets_tell : {d : Descent} {got : Option (List ℕ)} {next : Next Descent (Unit {0})} → KnowsWay tree d cs → WasGot (object.Page tree d.page) got cs
       → Brings (object.Page tree d.page) got (ask, a) → Gets d (Ok got) next → GotTells d next
   gets_tell {d = d} {next = next} k got new (step.goes_on bytes n f is l on) =
       let known : KnowsWay tree (with_node d bytes) cs = record {
@@ -165,7 +165,3 @@ module _ (tree : ℕ) (cs : Calls) (ask : Ask) (a : Answer) where
     inl (page_is d k, inl (inl (first, refl, brought _ None new))),
   )
   gets_tell {d = d} k got new (step.absent other) = ((other, new, (d.level, d.low, k.way.link)), inl (refl, other, brought _ None new))
-
-  pub node_got_tells : (d : Descent) (got : Option (List ℕ)) → KnowsWay tree d cs → WasGot (object.Page tree d.page) got cs
-      → Brings (object.Page tree d.page) got (ask, a) → GotTells d (descent_got d (Ok got))
-  node_got_tells d got k was new = gets_tell k was new (gets d (Ok got))

@@ -194,24 +194,19 @@ plans_lead w d k x h (seeks n y is b) = begins_lead w false (planned d) k (targe
 plans_lead w d k x h (full none e) = refuses (planned d) k (trouble.Exhausted counter.Number) h (λ memory. cc)
 plans_lead w d k x h (writes v none fits e) = writes (planned d) k v h (past_none d.writes.changes (length (planned d).plan.pages) none) e
 
-pub turned_leads : (d : Draft) (first : Bool) (n : Next (Walk × Cache) ℕ) → Leads d.writes (by_turn (walk_turned first d) n)
-turned_leads d first (Goes m) = walks first (pruned_behind d m.0 m.1) m.0 m.1 (used_kept d.writes m.1 m.0.used)
-turned_leads d first (Ends m page) = plans_lead d.writes (leaf_noted (pruned_behind d m.0 m.1) m.0 m.1 page) m.1 _ (used_kept d.writes m.1 m.0.used) (plans_on (leaf_noted (pruned_behind d m.0 m.1) m.0 m.1 page) m.1)
-turned_leads d first (Stops m t) = on (is_stale t) where
-  so : HasKept d.writes (pruned_behind d m.0 m.1).writes
-  so = used_kept d.writes m.1 m.0.used
+behind_kept : {d : Draft} {w : Walk} {c : Cache} {a : Answer} {first : Bool} {e : Draft} {k : Cache} → Behind d w c a first e k → HasKept d.writes e.writes
+behind_kept {d = d} (at_leaf first m page e is) = used_kept d.writes m.1 m.0.used
+behind_kept {d = d} (at_stale m t e is) = used_kept d.writes m.1 m.0.used
+behind_kept {d = d} (passed_over m t e is) = used_kept d.writes m.1 m.0.used
 
-  stale : (b : Bool) → Leads d.writes (stale_at b (pruned_behind d m.0 m.1) m.1)
-  stale true = plans_lead d.writes (pruned_behind d m.0 m.1) m.1 _ so (plans_on (pruned_behind d m.0 m.1) m.1)
-  stale false = plans_lead d.writes (paged (pruned_behind d m.0 m.1) 1) m.1 _ so (plans_on (paged (pruned_behind d m.0 m.1) 1) m.1)
+comes_lead : {d : Draft} {w : Walk} {c : Cache} {a : Answer} {first : Bool} {next : NextRun} → Comes d w c a first next → Leads d.writes next
+comes_lead {d = d} {first = first} (goes m e on is) = walks first (pruned_behind d m.0 m.1) m.0 m.1 (used_kept d.writes m.1 m.0.used)
+comes_lead {d = d} (ends m t e is other) = refuses (pruned_behind d m.0 m.1) m.1 t (used_kept d.writes m.1 m.0.used) other
+comes_lead {d = d} (lacks m e) = lacks (pruned_behind d m.0 m.1) m.1 (used_kept d.writes m.1 m.0.used)
+comes_lead {d = d} (plans e k next behind p) = plans_lead d.writes e k next (behind_kept behind) p
 
-  other : (u : Trouble) → Leads d.writes (troubled (pruned_behind d m.0 m.1) m.1 u)
-  other trouble.Memory = lacks (pruned_behind d m.0 m.1) m.1 so
-  other u = refuses (pruned_behind d m.0 m.1) m.1 u so (λ memory. cc)
-
-  on : (b : Bool) → Leads d.writes (if b then stale_at first (pruned_behind d m.0 m.1) m.1 else troubled (pruned_behind d m.0 m.1) m.1 t)
-  on true = stale first
-  on false = other t
+pub walked_leads : (d : Draft) (first : Bool) (w : Walk) (c : Cache) (a : Answer) → Leads d.writes (walked first d w c a)
+walked_leads d first w c a = comes_lead (comes d w c a first)
 
 abbrev pub spent_at : Home → List Noted → Cache → NextRun
 spent_at home changes c = refused (new_draft (waiting home changes)) c (trouble.Exhausted counter.Txn)

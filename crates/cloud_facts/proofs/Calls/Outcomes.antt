@@ -7,7 +7,7 @@ use Rattle.cloud_trait.proofs.StateLemmas.{landed_newest}
 use Rattle.cloud_facts.specs.Words.{ObjName, Entry, Answer, CloudState, called, newest, Caller, Claim, Ask, Get, GetHeld, PutHeld, Send, Receive, Delete, Take, Renew, Release, Book, Store, at, IsIn, store_of, IsCall, StandsUnder}
 use Rattle.cloud_trait.specs.Ask.{ListHeld, RemoveHeld, Lands, effect, PutsNothing, TouchesNoMessage}
 use Rattle.cloud_trait.specs.State.{landed as put}
-use Rattle.cloud_facts.specs.Calls.Acting.{Outcome, Handles}
+use Rattle.cloud_facts.specs.Calls.Acting.{footing, exchange, actor, Outcome, Handles}
 use Rattle.cloud_facts.specs.Calls.Links.{in_hand_at, LinksBy, GoneBy, OwesLease}
 use Rattle.cloud_trait.specs.Bench.{has_bytes}
 use Rattle.cloud_facts.specs.Calls.Looks.{Newest, has_landed, audited_at, audit_of}
@@ -93,7 +93,7 @@ is_noted before after ask note a lands = ap (λ b. cond b (note a) a) lands
 module _ (who : Caller) (book : Book) (order : List Entry) (s t : CloudState) (parts : Parts) (mine : List Claim) (ask : Ask) (note : Audited → Audited) (K : Store → ℕ → Part → Type 0) where
   -- whatever is known then
   pub stays : t ≡ called who t.now s → StandsUnder book order s → (part : Part) → HomesHold (store_of book order s).tally t.now (at who.session part parts)
-      → K (store_of book order s) t.now part → Outcome who book order s t parts mine ask note K
+      → K (store_of book order s) t.now part → Outcome (footing book order s) t (actor parts who.session mine) ask note K
   stays e stands part homes knows = record {
     book_after = book;
     order_after = order;
@@ -124,7 +124,7 @@ module _ (who : Caller) (book : Book) (order : List Entry) (s t : CloudState) (p
         ap (store_of su.book su.order) lands.0
         ∙ told_store (effect who ask (called who t.now s)) su (landing_tells who book order (called who t.now s) ask su called_stands.holds.chains called_stands.holds.gones called_stands.decodes l f)
 
-    with_noted : audited_at (newest s) (newest t) ask note (audit_of book order) ≡ audit_of su.book su.order → Outcome who book order s t parts mine ask note K
+    with_noted : audited_at (newest s) (newest t) ask note (audit_of book order) ≡ audit_of su.book su.order → Outcome (footing book order s) t (actor parts who.session mine) ask note K
     with_noted noted = record {
       book_after = su.book;
       order_after = su.order;
@@ -140,15 +140,15 @@ module _ (who : Caller) (book : Book) (order : List Entry) (s t : CloudState) (p
     }
 
     -- and puts nothing
-    pub other_landed : ((look new : Newest) → has_landed look new (Some ask) ≡ false) → audit_of book order ≡ audit_of su.book su.order → Outcome who book order s t parts mine ask note K
+    pub other_landed : ((look new : Newest) → has_landed look new (Some ask) ≡ false) → audit_of book order ≡ audit_of su.book su.order → Outcome (footing book order s) t (actor parts who.session mine) ask note K
     other_landed none same = with_noted (not_noted (newest s) (newest t) ask note (audit_of book order) (none (newest s) (newest t)) ∙ same)
 
   -- a call that neither puts nor touches a message
   pub quiet : (answer : Answer) → IsCall who ask answer s t → PutsNothing ask → TouchesNoMessage ask → StandsUnder book order s → (part : Part)
-      → HomesHold (store_of book order s).tally t.now (at who.session part parts) → K (store_of book order s) t.now part → Outcome who book order s t parts mine ask note K
+      → HomesHold (store_of book order s).tally t.now (at who.session part parts) → K (store_of book order s) t.now part → Outcome (footing book order s) t (actor parts who.session mine) ask note K
   quiet answer call puts touches stands part homes knows = on (landed_or_not who ask answer s t call)
     where
-      on : (t ≡ called who t.now s) ⊎ Lands who ask (called who t.now s) t → Outcome who book order s t parts mine ask note K
+      on : (t ≡ called who t.now s) ⊎ Lands who ask (called who t.now s) t → Outcome (footing book order s) t (actor parts who.session mine) ask note K
       on (inl e) = stays e stands part homes knows
       on (inr lands) =
           other_landed (store_of book order s) lands stands (lands_nothing.stays ask puts touches) tt tt tt part homes knows (quiet_unseen ask puts) refl
@@ -159,7 +159,7 @@ pub put_landed : (who : Caller) (book : Book) (order : List Entry) (s t : CloudS
     → (l : Landing who (store_of book order s) (PutHeld name bytes one two) su) → Follows who (store_of book order s) (PutHeld name bytes one two) su l
     → Commits who (store_of book order s) (parts who.session) (PutHeld name bytes one two) su l → OwesLease (in_hand_at mine t.now) who (store_of book order s) (PutHeld name bytes one two) su l → (part : Part)
     → HomesHold su.tally t.now (at who.session part parts) → K su t.now part → note (audit_of book order) ≡ audit_of su.book su.order
-    → Outcome who book order s t parts mine (PutHeld name bytes one two) note K
+    → Outcome (footing book order s) t (actor parts who.session mine) (PutHeld name bytes one two) note K
 put_landed who book order s t parts mine note K name bytes one two su lands stands l f c owes part homes knows noted =
     with_noted who book order s t parts mine (PutHeld name bytes one two) note K su lands stands l f c owes part homes knows
     (is_noted (newest s) (newest t) (PutHeld name bytes one two) note (audit_of book order) seen ∙ noted)
@@ -176,7 +176,7 @@ put_landed who book order s t parts mine note K name bytes one two su lands stan
 
 -- the session gives up its part
 pub gives_up : (who : Caller) (book : Book) (order : List Entry) (s t : CloudState) (parts : Parts) (mine : List Claim) (ask : Ask) (note : Audited → Audited) (K : Store → ℕ → Part → Type 0)
-    → Outcome who book order s t parts mine ask note K → Outcome who book order s t parts mine ask note (λ st now part. part ≡ Away)
+    → Outcome (footing book order s) t (actor parts who.session mine) ask note K → Outcome (footing book order s) t (actor parts who.session mine) ask note (λ st now part. part ≡ Away)
 gives_up who book order s t parts mine ask note K o = record {
   book_after = o.book_after;
   order_after = o.order_after;
@@ -194,7 +194,7 @@ gives_up who book order s t parts mine ask note K o = record {
 
 -- less is known
 pub weaker : (who : Caller) (book : Book) (order : List Entry) (s t : CloudState) (parts : Parts) (mine : List Claim) (ask : Ask) (note : Audited → Audited) (K L : Store → ℕ → Part → Type 0)
-    → ((st : Store) (now : ℕ) (part : Part) → K st now part → L st now part) → Outcome who book order s t parts mine ask note K → Outcome who book order s t parts mine ask note L
+    → ((st : Store) (now : ℕ) (part : Part) → K st now part → L st now part) → Outcome (footing book order s) t (actor parts who.session mine) ask note K → Outcome (footing book order s) t (actor parts who.session mine) ask note L
 weaker who book order s t parts mine ask note K L less o = record {
   book_after = o.book_after;
   order_after = o.order_after;
@@ -211,7 +211,7 @@ weaker who book order s t parts mine ask note K L less o = record {
 
 -- fewer leases are in hand
 pub fewer_handles : (who : Caller) (s t : CloudState) (ask : Ask) (reply : Answer) (mine after fewer : List Claim) → ((x : Claim) → IsIn fewer x → IsIn after x)
-    → Handles who s t ask reply mine after → Handles who s t ask reply mine fewer
+    → Handles (exchange who s t ask reply) mine after → Handles (exchange who s t ask reply) mine fewer
 fewer_handles who s t ask reply mine after fewer within h = record {
   owns = h.owns;
   guarded = h.guarded;

@@ -63,32 +63,52 @@ HasLeaseOf mine (Opens o) = IsIn mine o.lease × (o.lease.lock ≡ lock.Client o
 
 -- ---- before a call
 
--- what stands before a call of a session that has these leases in hand, at the clock that the call leaves
-pub record Setting (book : Book) (order : List Entry) (s : CloudState) (now : ℕ) (parts : Parts) (session : ℕ) (mine : List Claim) : Type 0 where
-  pub cloud : StandsUnder book order s
-  pub homes : HomesHold (store_of book order s).tally now parts
+-- what a call stands on: a cloud, and the book and the order that tell it
+pub record Footing : Type 0 where
+  pub book : Book
+  pub order : List Entry
+  pub state : CloudState
+
+abbrev pub footing : Book → List Entry → CloudState → Footing
+footing book order s = record { book = book; order = order; state = s }
+
+abbrev pub store_on : Footing → Store
+store_on on = store_of on.book on.order on.state
+
+-- the session that makes it: the parts of all sessions, which of them it is, and the leases that it has in hand
+pub record Actor : Type 0 where
+  pub parts : Parts
+  pub session : ℕ
+  pub mine : List Claim
+
+abbrev pub actor : Parts → ℕ → List Claim → Actor
+actor parts session mine = record { parts = parts; session = session; mine = mine }
+
+-- what stands before a call of a session, at the clock that the call leaves
+pub record Setting (on : Footing) (now : ℕ) (by : Actor) : Type 0 where
+  pub cloud : StandsUnder on.book on.order on.state
+  pub homes : HomesHold (store_on on).tally now by.parts
   -- while its lease of a client lasts, no other session has a part of the client with a lease that lasts
-  pub alone : (l : Claim) (client : ℕ) → IsIn mine l → l.lock ≡ lock.Client client → Lasts now l → IsAlone now parts session client
+  pub alone : (l : Claim) (client : ℕ) → IsIn by.mine l → l.lock ≡ lock.Client client → Lasts now l → IsAlone now by.parts by.session client
 
 -- ---- after it
 
 -- what a call leaves, the leases apart: what stands goes on exactly by what was seen to land, the session's part is a new one, and this is
 -- known; a landed put adds so much to the audit
-pub record Outcome (who : Caller) (book : Book) (order : List Entry) (s t : CloudState) (parts : Parts) (mine : List Claim) (ask : Ask)
-    (note : Audited → Audited) (Knows : Store → ℕ → Part → Type 0) : Type 0 where
+pub record Outcome (on : Footing) (t : CloudState) (by : Actor) (ask : Ask) (note : Audited → Audited) (Knows : Store → ℕ → Part → Type 0) : Type 0 where
   pub book_after : Book
   pub order_after : List Entry
   pub cloud : StandsUnder book_after order_after t
-  pub passes : Passes (store_of book order s) (store_of book_after order_after t)
+  pub passes : Passes (store_on on) (store_of book_after order_after t)
   -- what joins the log is of the session's own home
-  pub joins : (r : AtomicRec) → IsIn book_after.log r → IsIn book.log r ⊎ IsOfPart (parts who.session) r
+  pub joins : (r : AtomicRec) → IsIn book_after.log r → IsIn on.book.log r ⊎ IsOfPart (by.parts by.session) r
   -- and what joins a tree's links, and a page that is removed, is of a tree of which it has a lease that lasts
-  pub links : LinksBy mine t.now (store_of book order s) (store_of book_after order_after t)
-  pub gone : GoneBy mine t.now (store_of book order s) (store_of book_after order_after t)
+  pub links : LinksBy by.mine t.now (store_on on) (store_of book_after order_after t)
+  pub gone : GoneBy by.mine t.now (store_on on) (store_of book_after order_after t)
   pub part : Part
-  pub homes : HomesHold (store_of book_after order_after t).tally t.now (at who.session part parts)
+  pub homes : HomesHold (store_of book_after order_after t).tally t.now (at by.session part by.parts)
   pub knows : Knows (store_of book_after order_after t) t.now part
-  pub noted : audited_at (newest s) (newest t) ask note (audit_of book order) ≡ audit_of book_after order_after
+  pub noted : audited_at (newest on.state) (newest t) ask note (audit_of on.book on.order) ≡ audit_of book_after order_after
 
 -- what a machine knows that touches neither the session's part nor any head
 pub record Aside (st : Store) (before : Part) (Knows : Store → ℕ → Type 0) (u : Store) (now : ℕ) (part : Part) : Type 0 where
@@ -96,11 +116,22 @@ pub record Aside (st : Store) (before : Part) (Knows : Store → ℕ → Type 0)
   pub heads : (client : ℕ) → u.tally.head client ≡ st.tally.head client
   pub knows : Knows u now
 
+-- a call and its answer, with the states of the cloud before and after it
+pub record Exchange : Type 0 where
+  pub who : Caller
+  pub before : CloudState
+  pub after : CloudState
+  pub ask : Ask
+  pub reply : Answer
+
+abbrev pub exchange : Caller → CloudState → CloudState → Ask → Answer → Exchange
+exchange who s t ask reply = record { who = who; before = s; after = t; ask = ask; reply = reply }
+
 -- what a call does to the leases in hand: it names the session's own, which guard what it puts, and none is new but one that it was given
 -- or that a renewal left
-pub record Handles (who : Caller) (s t : CloudState) (ask : Ask) (reply : Answer) (mine after : List Claim) : Type 0 where
-  pub owns : Owns (λ session. mine) who.session ask
-  pub guarded : IsGuarded s t.now ask
+pub record Handles (call : Exchange) (mine after : List Claim) : Type 0 where
+  pub owns : Owns (λ session. mine) call.who.session call.ask
+  pub guarded : IsGuarded call.before call.after.now call.ask
   pub renewed : Claim
-  pub renews : RenewedTo who ask renewed (called who t.now s) t
-  pub own : (x : Claim) → IsIn after x → (IsIn mine x × KeptBy ask x) ⊎ GainedBy ask reply renewed x
+  pub renews : RenewedTo call.who call.ask renewed (called call.who call.after.now call.before) call.after
+  pub own : (x : Claim) → IsIn after x → (IsIn mine x × KeptBy call.ask x) ⊎ GainedBy call.ask call.reply renewed x

@@ -3,7 +3,7 @@ use Rattle.std.proofs.Common.{◌≡◌, ◌⊎◌, inl, inr, zero, suc, List, [
 use Rattle.ckpt_parts.specs.Leasing.{outstanding_after}
 use Rattle.cloud_facts.specs.Words.{Answer, CloudState, called, Caller, Claim, Ask, Take, Renew, Release, IsIn}
 use Rattle.cloud_facts.proofs.Book.Places.{get_single}
-use Rattle.cloud_facts.specs.Calls.Acting.{Handles}
+use Rattle.cloud_facts.specs.Calls.Acting.{exchange, Handles}
 use Rattle.cloud_facts.specs.Leases.Guards.{IsGuarded}
 use Rattle.cloud_facts.specs.Leases.Leases.{AreOne, KeptBy, GainedBy, Owns, RenewedTo}
 use Rattle.cloud_trait.specs.declared.answer.Answer.TheVariants.{Given}
@@ -35,7 +35,7 @@ module _ (who : Caller) (s t : CloudState) (home : Claim) (reply : Answer) (afte
 
   -- the home's lease stays in hand, and of the others what is outstanding
   pub hand : (ask : Ask) (mine : List Claim) → Owns (λ n. home ∷ mine) who.session ask → IsGuarded s t.now ask → RenewedTo who ask home (called who t.now s) t
-      → ((x : Claim) → IsIn (home ∷ outstanding_after ask reply mine) x → KeptBy ask x) → AreLeft ask mine → Handles who s t ask reply (home ∷ mine) after
+      → ((x : Claim) → IsIn (home ∷ outstanding_after ask reply mine) x → KeptBy ask x) → AreLeft ask mine → Handles (exchange who s t ask reply) (home ∷ mine) after
   hand ask mine owns guarded renews kept left = record {
     owns = owns;
     guarded = guarded;

@@ -3,7 +3,7 @@ use Rattle.std.proofs.Common.{ℕ, List}
 use Rattle.client_work.specs.Session.{shown_behind}
 use Rattle.client_work.specs.declared.work.Work.{Work}
 use Rattle.client_work.specs.declared.work.Work.TheVariants.{Closed, Idle, Opening, Committing, Reading, Scanning, Looking, Folding, Paging, Closing, Renewing, Settling, Sweeping, Broken}
-use Rattle.cloud_facts.specs.Calls.Acting.{Outcome}
+use Rattle.cloud_facts.specs.Calls.Acting.{footing, actor, Outcome}
 use Rattle.cloud_facts.specs.Words.{Entry, CloudState, Caller, Claim, Ask, Book, Store, store_of}
 use Rattle.history.specs.Audited.{Audited}
 use Rattle.cloud_facts.specs.Homes.Homes.{Part, Parts}
@@ -68,8 +68,8 @@ both_shown c (Broken l) st now part k = k
 
 -- a call that leaves the cache alone
 pub with_cache : (who : Caller) (book : Book) (order : List Entry) (s t : CloudState) (parts : Parts) (mine : List Claim) (ask : Ask) (note : Audited → Audited) (c : Cache) (work : Work)
-    → KnowsCache (store_of book order s) c → Outcome who book order s t parts mine ask note (λ st now part. KnowsWork st now c work part)
-    → Outcome who book order s t parts mine ask note (KnowsBoth c work)
+    → KnowsCache (store_of book order s) c → Outcome (footing book order s) t (actor parts who.session mine) ask note (λ st now part. KnowsWork st now c work part)
+    → Outcome (footing book order s) t (actor parts who.session mine) ask note (KnowsBoth c work)
 with_cache who book order s t parts mine ask note c work kept o = record {
   book_after = o.book_after;
   order_after = o.order_after;

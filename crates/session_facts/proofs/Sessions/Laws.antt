@@ -7,7 +7,7 @@ use Rattle.cloud_facts.specs.Chains.Chain.{ChainHolds}
 use Rattle.client_work.specs.Session.{Acting, closed_session, ask_of_work}
 use Rattle.cloud_facts.proofs.Calls.Guarding.{others_of}
 use Rattle.cloud_facts.proofs.Calls.StandingLemmas.{empty_stands, same_stands}
-use Rattle.cloud_facts.specs.Calls.Acting.{HasLeaseOf, Setting, Outcome, Handles}
+use Rattle.cloud_facts.specs.Calls.Acting.{footing, exchange, actor, HasLeaseOf, Setting, Outcome, Handles}
 use Rattle.cloud_facts.specs.Words.{Lock, Entry, AtomicRec, Answer as Reply, CloudState, newest, Caller, Claim, Lasts, Ask, Get, GetHeld, PutHeld, Send, Receive, Delete, Take, Renew, Release, Book, Store, at, IsIn, store_of, IsCall, StandsUnder}
 use Rattle.cloud_facts.specs.Calls.Looks.{has_landed, audit_of}
 use Rattle.cloud_facts.specs.Calls.Others.{IsOfPart, NoneJoins}
@@ -82,13 +82,13 @@ module _ (who : Caller) (s t : CloudState) (sessions : Sessions) (ask : Ask) (re
   mine = hands_of sessions who.session
 
   -- the leases of all after a call of one
-  leases_after : (new : Acting) → Handles who s t ask reply mine (leases_of new.work) → LeasesHold s.now s.locks (hands_of sessions) → LeasesHold t.now t.locks (hands_of (at who.session new sessions))
+  leases_after : (new : Acting) → Handles (exchange who s t ask reply) mine (leases_of new.work) → LeasesHold s.now s.locks (hands_of sessions) → LeasesHold t.now t.locks (hands_of (at who.session new sessions))
   leases_after new h leases =
       leaves_keep who ask reply _ _ h.renewed s (Some t) (leaves_by who ask reply s t call) (hands_of sessions) (hands_of (at who.session new sessions))
       (owned (hands_of sessions) who.session ask h.owns) h.renews
       (record { others = λ n ne. hands_beside sessions who.session new n ne; own = λ x holds. h.own x (subst (λ ls. IsIn ls x) (hands_at sessions who.session new) holds) }) leases
 
-  allowed_by : (after : List Claim) → Handles who s t ask reply mine after → Allowed (hands_of sessions) who.session s t
+  allowed_by : (after : List Claim) → Handles (exchange who s t ask reply) mine after → Allowed (hands_of sessions) who.session s t
   allowed_by after h = call_is_allowed who ask reply _ _ s (Some t) (leaves_by who ask reply s t call) (hands_of sessions) (owned (hands_of sessions) who.session ask h.owns) h.guarded
 
 -- ---- what stands before a call
@@ -122,7 +122,7 @@ module _ (book : Book) (order : List Entry) (s : CloudState) (sessions : Session
           let has : HasLeaseOf (hands_of sessions other) (Opens o) = subst (HasLeaseOf (hands_of sessions other)) e (lease_there other) in
           never o.lease has.0 (has.1 ∙ ap (λ c. lock.Client c) same) lasting
 
-  pub setting_of : (now session : ℕ) → s.now ≤ now → Setting book order s now stand.parts session (leases_of (sessions session).work)
+  pub setting_of : (now session : ℕ) → s.now ≤ now → Setting (footing book order s) now (actor stand.parts session (leases_of (sessions session).work))
   setting_of now session later = record {
     cloud = stand.cloud;
     homes = homes_later (store_of book order s).tally s.now now stand.parts later stand.homes;
@@ -154,8 +154,8 @@ none_joins st su now parts session n ne homes joins r is of = on (joins r is)
 -- what a call of a session leaves, by what it leaves of the cloud and of its own leases
 pub call_goes : (who : Caller) (s t : CloudState) (book : Book) (order : List Entry) (sessions : Sessions) (new : Acting) (ask : Ask) (reply : Reply) → (stand : SessionsStand book order s sessions)
     → MayCommit new.buffer → IsCall who ask reply s t → ask_of_work (sessions who.session).work ≡ Some ask
-    → Handles who s t ask reply (leases_of (sessions who.session).work) (leases_of new.work)
-    → Outcome who book order s t stand.parts (hands_of sessions who.session) ask (noted_at (sessions who.session).work ask)
+    → Handles (exchange who s t ask reply) (leases_of (sessions who.session).work) (leases_of new.work)
+    → Outcome (footing book order s) t (actor stand.parts who.session (hands_of sessions who.session)) ask (noted_at (sessions who.session).work ask)
     (KnowsBoth new.cache new.work)
     → Goes (ground book order s sessions) t who.session new
 call_goes who s t book order sessions new ask reply stand may call asks h o = record {

@@ -8,7 +8,7 @@ use Rattle.client_work.specs.Session.{Acting, StepsSession, StepsWork, StepsAt, 
 use Rattle.client_work.specs.declared.answer.Answer.{Answer}
 use Rattle.client_work.specs.declared.work.Work.{Work}
 use Rattle.client_work.specs.declared.work.Work.TheVariants.{Closed, Idle, Opening, Committing, Reading, Scanning, Looking, Folding, Paging, Closing, Renewing, Settling, Sweeping, Broken}
-use Rattle.cloud_facts.specs.Calls.Acting.{Setting, Outcome}
+use Rattle.cloud_facts.specs.Calls.Acting.{footing, actor, Setting, Outcome}
 use Rattle.cloud_facts.specs.Calls.Looks.{has_landed, audit_of}
 use Rattle.cloud_facts.proofs.Calls.Outcomes.{none_lands, weaker}
 use Rattle.cloud_trait.proofs.EffectLemmas.{begins_itself}
@@ -34,7 +34,7 @@ use Rattle.session_facts.proofs.Sessions.Steps.Commits.{commit_step, run_noted}
 use Rattle.session_facts.proofs.Sessions.Steps.TreeCheckpoints.{making_step, making_noted}
 use Rattle.session_facts.proofs.Sessions.Kept.{KnowsBoth, both_shown}
 use Rattle.session_facts.proofs.Sessions.Laws.{call_goes, same_sessions, setting_of, known_at}
-use Rattle.session_facts.proofs.Sessions.Steps.Leases.{IsStepOf, closing_step, renewing_step}
+use Rattle.session_facts.proofs.Sessions.Steps.Leases.{passage, IsStepOf, closing_step, renewing_step}
 use Rattle.session_facts.proofs.Sessions.Steps.Openings.{opening_step}
 use Rattle.session_facts.proofs.Sessions.Steps.Walks.{reading_step}
 use Rattle.session_facts.proofs.Sessions.Steps.Scans.{scanning_step}
@@ -80,7 +80,7 @@ nothing_noted work (Release l) a opens applies = refl
 
 -- the same is added by another way of saying it
 renoted : (who : Caller) (book : Book) (order : List Entry) (s t : CloudState) (parts : Parts) (mine : List Claim) (ask : Ask) (note other : Audited → Audited) (K : Store → ℕ → Part → Type 0)
-    → note (audit_of book order) ≡ other (audit_of book order) → Outcome who book order s t parts mine ask note K → Outcome who book order s t parts mine ask other K
+    → note (audit_of book order) ≡ other (audit_of book order) → Outcome (footing book order s) t (actor parts who.session mine) ask note K → Outcome (footing book order s) t (actor parts who.session mine) ask other K
 renoted who book order s t parts mine ask note other K same o = record {
   book_after = o.book_after;
   order_after = o.order_after;
@@ -125,10 +125,10 @@ module _ (who : Caller) (before after : Seen) (s t : CloudState) (book : Book) (
 
   -- a step of what is at work, as it is said of all sessions
   goes_by : (ask : Ask) (note : Audited → Audited) (c : Cache) → ask_of_work old ≡ Some ask → note (audit_of book order) ≡ noted_at old ask (audit_of book order)
-      → new.cache ≡ shown_behind new.work c → IsStepOf who book order s t stand.parts ask note old new.work c → Goes (ground book order s sessions) t who.session new
+      → new.cache ≡ shown_behind new.work c → IsStepOf (footing book order s) t stand.parts ask note (passage who old new.work c) → Goes (ground book order s sessions) t who.session new
   goes_by ask note c asks same shown step =
       call_goes who s t book order sessions new ask step.reply stand may step.call asks step.handles
-      (subst (λ (k : Cache). Outcome who book order s t stand.parts (leases_of old) ask (noted_at old ask) (KnowsBoth k new.work)) (sym shown)
+      (subst (λ (k : Cache). Outcome (footing book order s) t (actor stand.parts who.session (leases_of old)) ask (noted_at old ask) (KnowsBoth k new.work)) (sym shown)
       (weaker who book order s t stand.parts (leases_of old) ask (noted_at old ask) (KnowsBoth c new.work) (KnowsBoth (shown_behind new.work c) new.work) (both_shown c new.work)
       (renoted who book order s t stand.parts (leases_of old) ask note (noted_at old ask) (KnowsBoth c new.work) same step.outcome)))
 
@@ -136,14 +136,14 @@ module _ (who : Caller) (before after : Seen) (s t : CloudState) (book : Book) (
   st = store_of book order s
 
   abbrev Stepped : Ask → (Audited → Audited) → Cache → Work → Type 0
-  Stepped ask note c work = IsStepOf who book order s t stand.parts ask note work new.work c
+  Stepped ask note c work = IsStepOf (footing book order s) t stand.parts ask note (passage who work new.work c)
 
   abbrev kept : Cache
   kept = (sessions who.session).cache
 
   -- what stands before it and what is known, at the clock that it leaves
-  setting_at : (work : Work) → old ≡ work → s.now ≤ t.now → Setting book order s t.now stand.parts who.session (leases_of work)
-  setting_at work is later = subst (λ w. Setting book order s t.now stand.parts who.session (leases_of w)) is (setting_of book order s sessions stand t.now who.session later)
+  setting_at : (work : Work) → old ≡ work → s.now ≤ t.now → Setting (footing book order s) t.now (actor stand.parts who.session (leases_of work))
+  setting_at work is later = subst (λ w. Setting (footing book order s) t.now (actor stand.parts who.session (leases_of w))) is (setting_of book order s sessions stand t.now who.session later)
 
   known_now : (work : Work) → old ≡ work → KnowsWork st s.now kept work (stand.parts who.session)
   known_now work is = subst (λ w. KnowsWork st s.now kept w (stand.parts who.session)) is (stand.each who.session).work

@@ -9,7 +9,7 @@ use Rattle.client_work.specs.declared.listing.Listing.{Listing}
 use Rattle.client_work.specs.declared.shown.Shown.{Shown}
 use Rattle.client_work.specs.declared.work.Work.{Work}
 use Rattle.client_work.specs.declared.work.Work.TheVariants.{Closed, Idle, Opening, Committing, Reading, Scanning, Looking, Folding, Paging, Closing, Renewing, Settling, Sweeping, Broken}
-use Rattle.cloud_facts.specs.Calls.Acting.{Setting}
+use Rattle.cloud_facts.specs.Calls.Acting.{footing, actor, Setting}
 use Rattle.cloud_facts.specs.Words.{Trouble, CommitAnswer, Entry, Answer as Reply, Turn, More, Ended, Stopped, CloudState, Caller, Seen, Ask, Book, Store, store_of, IsCall}
 use Rattle.cloud_facts.proofs.Calls.Calls.{call_of}
 use Rattle.cloud_trait.specs.Machine.{LeadsBy, Took}
@@ -70,8 +70,8 @@ module _ (who : Caller) (before after : Seen) (s t : CloudState) (book : Book) (
   abbrev st : Store
   st = store_of book order s
 
-  setting_at : (work : Work) → old ≡ work → s.now ≤ t.now → Setting book order s t.now stand.parts who.session (leases_of work)
-  setting_at work is later = subst (λ w. Setting book order s t.now stand.parts who.session (leases_of w)) is (setting_of book order s sessions stand t.now who.session later)
+  setting_at : (work : Work) → old ≡ work → s.now ≤ t.now → Setting (footing book order s) t.now (actor stand.parts who.session (leases_of work))
+  setting_at work is later = subst (λ w. Setting (footing book order s) t.now (actor stand.parts who.session (leases_of w))) is (setting_of book order s sessions stand t.now who.session later)
 
   known_now : (work : Work) → old ≡ work → KnowsWork st s.now kept work (stand.parts who.session)
   known_now work is = subst (λ w. KnowsWork st s.now kept w (stand.parts who.session)) is (stand.each who.session).work

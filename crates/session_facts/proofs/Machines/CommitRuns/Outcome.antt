@@ -1,6 +1,6 @@
 -- What a commit run knows after each of its calls, whatever it answered.
 use Rattle.std.proofs.Common.{◌≡◌, ℕ, Bool, true, false, List, [], ◌∷◌, refl, sym, subst}
-use Rattle.cloud_facts.specs.Calls.Acting.{Setting, Outcome}
+use Rattle.cloud_facts.specs.Calls.Acting.{footing, actor, Setting, Outcome}
 use Rattle.cloud_facts.specs.Words.{Entry, Answer, CloudState, Caller, Claim, Ask, Book, Store, store_of, IsCall}
 use Rattle.cloud_facts.proofs.Calls.Outcomes.{quiet}
 use Rattle.session_facts.specs.Machines.Commits.Knows.{KnowsNext}
@@ -25,7 +25,7 @@ use Rattle.session_facts.proofs.Machines.Walks.Caches.{cache_grows}
 use Rattle.session_facts.proofs.Machines.Walks.Outcome.{walk_goes}
 
 module _ (who : Caller) (book : Book) (order : List Entry) (s t : CloudState) (parts : Parts) (reply : Answer) (d : Draft) (c : Cache)
-    (setting : Setting book order s t.now parts who.session (d.writes.home.lease ∷ [])) (cache : KnowsCache (store_of book order s) c) where
+    (setting : Setting (footing book order s) t.now (actor parts who.session (d.writes.home.lease ∷ []))) (cache : KnowsCache (store_of book order s) c) where
   abbrev st : Store
   st = store_of book order s
 
@@ -33,7 +33,7 @@ module _ (who : Caller) (book : Book) (order : List Entry) (s t : CloudState) (p
   mine = d.writes.home.lease ∷ []
 
   abbrev OutcomeOf : Ask → (Audited → Audited) → (Store → ℕ → Part → Type 0) → Type 0
-  OutcomeOf ask note K = Outcome who book order s t parts mine ask note K
+  OutcomeOf ask note K = Outcome (footing book order s) t (actor parts who.session mine) ask note K
 
   -- what the commit knows goes on beside the cache
   writes_outcome : OutcomeOf (writing_ask d.writes) (commit_note d.writes (writing_ask d.writes)) (KnowsNext (writing_next d.writes reply))
@@ -71,8 +71,8 @@ module _ (who : Caller) (book : Book) (order : List Entry) (s t : CloudState) (p
   outcome_at (Change w) k sound call = walk_outcome false w call k
 
 pub run_outcome : (who : Caller) (book : Book) (order : List Entry) (s t : CloudState) (parts : Parts) (m : Run × Cache) (reply : Answer) (part : Part)
-    → Setting book order s t.now parts who.session ((home_of m.0).lease ∷ []) → parts who.session ≡ part → KnowsRun (store_of book order s) t.now m part → IsSoundRun m.0
-    → IsCall who (asks m) reply s t → Outcome who book order s t parts ((home_of m.0).lease ∷ []) (asks m) (run_note m.0 (asks m)) (KnowsRunNext (run_next m reply))
+    → Setting (footing book order s) t.now (actor parts who.session ((home_of m.0).lease ∷ [])) → parts who.session ≡ part → KnowsRun (store_of book order s) t.now m part → IsSoundRun m.0
+    → IsCall who (asks m) reply s t → Outcome (footing book order s) t (actor parts who.session ((home_of m.0).lease ∷ [])) (asks m) (run_note m.0 (asks m)) (KnowsRunNext (run_next m reply))
 run_outcome who book order s t parts m reply part setting is k sound call =
     outcome_at who book order s t parts reply m.0.draft m.1 setting k.cache m.0.hand (subst (λ (p : Part). KnowsHand m.0.hand (store_of book order s) t.now m.0.draft p) (sym is) k.hand)
     sound call

@@ -1,7 +1,7 @@
 -- What a deletion of an ATOMIC message leaves.
 use Rattle.std.proofs.Common.{◌≡◌, ◌⊎◌, inl, inr, ℕ, List, [], ◌∷◌, Some, refl}
 use Rattle.std.specs.Prelude.{slice_get}
-use Rattle.cloud_facts.specs.Calls.Acting.{Outcome}
+use Rattle.cloud_facts.specs.Calls.Acting.{footing, actor, Outcome}
 use Rattle.cloud_facts.specs.Words.{Entry, Answer, CloudState, called, Caller, Ask, Delete, Book, Store, at, store_of, IsCall}
 use Rattle.cloud_facts.proofs.Calls.Calls.{landed_or_not}
 use Rattle.cloud_facts.proofs.Calls.Outcomes.{stays, other_landed}
@@ -11,7 +11,7 @@ use Rattle.session_facts.specs.Machines.Commits.Audited.{noted_at}
 use Rattle.session_facts.proofs.Machines.Commits.Records.{messages_stay}
 use Rattle.session_facts.proofs.Machines.Commits.Logged.{marks, spared}
 use Rattle.session_facts.proofs.Machines.Commits.Nexts.{WriteStep, part_next, next_homes, leads}
-use Rattle.session_facts.proofs.Machines.Commits.Ready.{Ready, homes}
+use Rattle.session_facts.proofs.Machines.Commits.Ready.{committer, Ready, homes}
 use Rattle.commit_writes.specs.declared.stage.Stage.TheVariants.{Deleting}
 use Rattle.commit_writes.specs.Writing.{Writing, writing_next}
 use Rattle.commit_writes.proofs.Outcomes.{comes, at as staged}
@@ -23,7 +23,7 @@ use Rattle.cloud_facts.specs.Book.Effects.{after_log_mark}
 use Rattle.cloud_facts.proofs.Book.GrowthLemmas.{log_mark_grows}
 
 module _ (who : Caller) (book : Book) (order : List Entry) (s t : CloudState) (parts : Parts) (v : Writing) (reply : Answer) (part : Part) (g : Home)
-    (ready : Ready who book order s t.now parts (staged v Deleting) part g) (a : Deletes (store_of book order s) t.now (staged v Deleting) g) (id : ℕ)
+    (ready : Ready (footing book order s) t.now (committer parts who.session (staged v Deleting)) (staged v Deleting) part g) (a : Deletes (store_of book order s) t.now (staged v Deleting) g) (id : ℕ)
     (there : slice_get v.ids v.place ≡ Some id) where
   abbrev w : Writing
   w = staged v Deleting
@@ -44,7 +44,7 @@ module _ (who : Caller) (book : Book) (order : List Entry) (s t : CloudState) (p
   su = after_log_mark client id st
 
   abbrev OutcomeOf : Ask → Type 0
-  OutcomeOf q = Outcome who book order s t parts (w.home.lease ∷ []) q (noted_at Deleting w q) (KnowsNext step)
+  OutcomeOf q = Outcome (footing book order s) t (actor parts who.session (w.home.lease ∷ [])) q (noted_at Deleting w q) (KnowsNext step)
 
   after_homes : HomesHold su.tally t.now (at who.session part parts)
   after_homes =

@@ -1,7 +1,7 @@
 -- What a commit knows after each of its calls, whatever it answered.
 use Rattle.std.proofs.Common.{◌≡◌, ℕ, List, [], ◌∷◌, Option, Some, None, refl}
 use Rattle.std.specs.Prelude.{slice_get}
-use Rattle.cloud_facts.specs.Calls.Acting.{Setting, Outcome}
+use Rattle.cloud_facts.specs.Calls.Acting.{footing, actor, Setting, Outcome}
 use Rattle.cloud_facts.specs.Words.{Entry, AtomicRec, Answer, CloudState, Caller, Ask, Book, store_of, IsCall}
 use Rattle.session_facts.specs.Machines.Commits.Knows.{LogsNext, SendsNext, Deletes, KnowsCommitAt, KnowsCommit, KnowsNext}
 use Rattle.session_facts.specs.Machines.Commits.Audited.{noted_at, commit_note}
@@ -10,7 +10,7 @@ use Rattle.session_facts.proofs.Machines.Commits.SentLogged.{logging_outcome}
 use Rattle.session_facts.proofs.Machines.Commits.Nexts.{stands_of}
 use Rattle.session_facts.proofs.Machines.Commits.PutOpened.{opening_outcome}
 use Rattle.session_facts.proofs.Machines.Commits.PutSettled.{settling_outcome}
-use Rattle.session_facts.proofs.Machines.Commits.Ready.{Ready}
+use Rattle.session_facts.proofs.Machines.Commits.Ready.{committer, Ready}
 use Rattle.session_facts.proofs.Machines.Commits.SentOn.{sending_outcome}
 use Rattle.commit_writes.specs.declared.stage.Stage.{Stage}
 use Rattle.commit_writes.specs.declared.stage.Stage.TheVariants.{Waiting, Logging, Opening, Sending, Settling, Deleting, Finished}
@@ -21,10 +21,10 @@ use Rattle.cloud_facts.specs.Homes.Homes.{Home, Part, Parts}
 
 module _ (who : Caller) (book : Book) (order : List Entry) (s t : CloudState) (parts : Parts) (w : Writing) (reply : Answer) (part : Part) (g : Home) where
   abbrev ReadyAt : Stage → Type 0
-  ReadyAt stage = Ready who book order s t.now parts (staged w stage) part g
+  ReadyAt stage = Ready (footing book order s) t.now (committer parts who.session (staged w stage)) (staged w stage) part g
 
   abbrev OutcomeBy : Stage → Ask → Type 0
-  OutcomeBy stage ask = Outcome who book order s t parts (w.home.lease ∷ []) ask (noted_at stage (staged w stage) ask) (KnowsNext (writing_next (staged w stage) reply))
+  OutcomeBy stage ask = Outcome (footing book order s) t (actor parts who.session (w.home.lease ∷ [])) ask (noted_at stage (staged w stage) ask) (KnowsNext (writing_next (staged w stage) reply))
 
   logging : ReadyAt Logging → LogsNext (store_of book order s) t.now (staged w Logging) g → (o : Option AtomicRec) → slice_get w.records w.place ≡ o → LogsRecord w o
       → IsCall who (log_ask w) reply s t → OutcomeBy Logging (log_ask w)
@@ -52,7 +52,7 @@ module _ (who : Caller) (book : Book) (order : List Entry) (s t : CloudState) (p
   outcome_at Finished ready never sound call = absurd never
 
 pub commit_outcome : (who : Caller) (book : Book) (order : List Entry) (s t : CloudState) (parts : Parts) (w : Writing) (reply : Answer) (part : Part)
-    → Setting book order s t.now parts who.session (w.home.lease ∷ []) → parts who.session ≡ part → KnowsCommit (store_of book order s) t.now w part → IsSound w
-    → IsCall who (writing_ask w) reply s t → Outcome who book order s t parts (w.home.lease ∷ []) (writing_ask w) (commit_note w (writing_ask w)) (KnowsNext (writing_next w reply))
+    → Setting (footing book order s) t.now (actor parts who.session (w.home.lease ∷ [])) → parts who.session ≡ part → KnowsCommit (store_of book order s) t.now w part → IsSound w
+    → IsCall who (writing_ask w) reply s t → Outcome (footing book order s) t (actor parts who.session (w.home.lease ∷ [])) (writing_ask w) (commit_note w (writing_ask w)) (KnowsNext (writing_next w reply))
 commit_outcome who book order s t parts w reply part setting is k sound call =
     outcome_at who book order s t parts w reply part k.home w.stage (record { setting = setting; is = is; stands = stands_of (store_of book order s) t.now w part k }) k.at sound call

@@ -1,7 +1,7 @@
 -- What the put that commits leaves.
 use Rattle.std.proofs.Common.{◌≡◌, ◌⊎◌, inl, inr, ℕ, List, [], ◌∷◌, ◌++◌, map, Some, None, Ok, refl, sym, ap, subst, ◌∙◌, arith, append-nil}
 use Rattle.std.proofs.lemmas.List.{map-append}
-use Rattle.cloud_facts.specs.Calls.Acting.{IsPruned}
+use Rattle.cloud_facts.specs.Calls.Acting.{footing, IsPruned}
 use Rattle.cloud_facts.specs.Words.{Entry, AtomicRec, Head, Answer, CloudState, called, Caller, Lasts, done_of, Book, Store, at, IsIn, store_of, IsCall}
 use Rattle.cloud_facts.specs.Calls.Looks.{audit_of}
 use Rattle.cloud_facts.proofs.Calls.Calls.{put_cases, put_lasts, put_late}
@@ -13,7 +13,7 @@ use Rattle.session_facts.specs.Machines.Commits.Audited.{noted_at}
 use Rattle.session_facts.proofs.Machines.Commits.Records.{record_of, record_for, messages_stay}
 use Rattle.session_facts.proofs.Machines.Commits.Nexts.{WriteStep, IsLeft, part_next, next_homes, knows_home, leads, restored_is}
 use Rattle.session_facts.proofs.Machines.Commits.Opened as opened
-use Rattle.session_facts.proofs.Machines.Commits.Ready.{Ready, OutcomeAt, at_home, holds, homes, lasting, alone}
+use Rattle.session_facts.proofs.Machines.Commits.Ready.{committer, Ready, OutcomeAt, at_home, holds, homes, lasting, alone}
 use Rattle.session_facts.proofs.Machines.Commits.Routes.{records}
 use Rattle.commit_writes.specs.declared.stage.Stage.TheVariants.{Opening}
 use Rattle.commit_writes.specs.Writing.{Writing, head_ask, restored, writing_next}
@@ -37,7 +37,7 @@ use Rattle.session_facts.proofs.Machines.Openings.Counted.{counted_in, log_in}
 use Rattle.session_facts.proofs.Machines.Openings.Entries.{records_in}
 
 module _ (who : Caller) (book : Book) (order : List Entry) (s t : CloudState) (parts : Parts) (v : Writing) (reply : Answer) (part : Part) (g : Home)
-    (ready : Ready who book order s t.now parts (staged v Opening) part g) (a : OpensBehind (store_of book order s) t.now (staged v Opening) g)
+    (ready : Ready (footing book order s) t.now (committer parts who.session (staged v Opening)) (staged v Opening) part g) (a : OpensBehind (store_of book order s) t.now (staged v Opening) g)
     (sound : head_of v.out ≡ Some v.home.head) (call : IsCall who (head_ask v) reply s t) where
   abbrev w : Writing
   w = staged v Opening
@@ -153,7 +153,7 @@ module _ (who : Caller) (book : Book) (order : List Entry) (s t : CloudState) (p
             ∙ sym (opened.entries_are client (a.base).epoch w.home.attempt a.base w.changes (a.routes).pages (a.routes).paged))
             ∙ sym (map-append entry_of book.log recs)
 
-    opened_outcome : Lands who (head_ask w) (called who t.now s) t → OutcomeAt who book order s t parts w reply Opening
+    opened_outcome : Lands who (head_ask w) (called who t.now s) t → OutcomeAt (footing book order s) t (committer parts who.session w) w reply Opening
     opened_outcome lands =
         put_landed who book order s t parts (w.home.lease ∷ []) (noted_at Opening w (head_ask w)) (KnowsNext step) (object.Head client) w.out w.home.lease None su lands (ready.setting).cloud
         (landing.opens client w.home.head recs w.out w.home.lease None sound opens_recs) tt
@@ -165,10 +165,10 @@ module _ (who : Caller) (book : Book) (order : List Entry) (s t : CloudState) (p
         ))
         noted
 
-  pub opening_outcome : OutcomeAt who book order s t parts w reply Opening
+  pub opening_outcome : OutcomeAt (footing book order s) t (committer parts who.session w) w reply Opening
   opening_outcome = on (put_cases who (object.Head client) w.out w.home.lease None reply s t call)
     where
-      on : ((t ≡ called who t.now s) × (done_of reply ≡ Ok tt → ⊥)) ⊎ Lands who (head_ask w) (called who t.now s) t → OutcomeAt who book order s t parts w reply Opening
+      on : ((t ≡ called who t.now s) × (done_of reply ≡ Ok tt → ⊥)) ⊎ Lands who (head_ask w) (called who t.now s) t → OutcomeAt (footing book order s) t (committer parts who.session w) w reply Opening
       on (inl p) =
           stays who book order s t parts (w.home.lease ∷ []) (head_ask w) (noted_at Opening w (head_ask w)) (KnowsNext step) p.0 (ready.setting).cloud (part_next step part)
           (next_homes st.tally t.now parts who.session part step (homes who book order s t.now parts w part g ready))

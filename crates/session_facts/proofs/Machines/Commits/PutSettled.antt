@@ -1,6 +1,7 @@
 -- What the put that settles leaves.
 use Rattle.std.proofs.Common.{◌≡◌, ◌⊎◌, inl, inr, ℕ, List, [], ◌∷◌, Some, None, Ok, refl, sym, ap, subst, ◌∙◌}
 use Rattle.std.proofs.lemmas.List.{append-nil}
+use Rattle.cloud_facts.specs.Calls.Acting.{footing}
 use Rattle.cloud_facts.specs.Words.{Entry, AtomicRec, Head, Answer, CloudState, called, Caller, Lasts, done_of, Book, Store, at, store_of, IsCall}
 use Rattle.cloud_facts.specs.Calls.Looks.{audit_of}
 use Rattle.cloud_facts.proofs.Calls.Calls.{put_cases, put_lasts}
@@ -13,7 +14,7 @@ use Rattle.session_facts.specs.Machines.Commits.Audited.{noted_at}
 use Rattle.session_facts.proofs.Machines.Commits.Records.{messages_stay}
 use Rattle.session_facts.proofs.Machines.Commits.Others.{committed_on}
 use Rattle.session_facts.proofs.Machines.Commits.Nexts.{WriteStep, Stands, part_next, next_homes, leads}
-use Rattle.session_facts.proofs.Machines.Commits.Ready.{Ready, OutcomeAt, at_home, homes, lasting, alone}
+use Rattle.session_facts.proofs.Machines.Commits.Ready.{committer, Ready, OutcomeAt, at_home, homes, lasting, alone}
 use Rattle.session_facts.proofs.Machines.Commits.Settled.{settles_opened}
 use Rattle.commit_writes.specs.declared.stage.Stage.TheVariants.{Settling}
 use Rattle.commit_writes.specs.Writing.{Writing, head_ask, writing_next}
@@ -31,7 +32,7 @@ use Rattle.cloud_facts.proofs.Book.Names.{at_same}
 use Rattle.cloud_facts.proofs.Book.Places.{in_front}
 
 module _ (who : Caller) (book : Book) (order : List Entry) (s t : CloudState) (parts : Parts) (v : Writing) (reply : Answer) (part : Part) (g : Home)
-    (ready : Ready who book order s t.now parts (staged v Settling) part g) (k : SettlesOpened (store_of book order s) t.now (staged v Settling))
+    (ready : Ready (footing book order s) t.now (committer parts who.session (staged v Settling)) (staged v Settling) part g) (k : SettlesOpened (store_of book order s) t.now (staged v Settling))
     (sound : head_of v.out ≡ Some v.home.head) (call : IsCall who (head_ask v) reply s t) where
   abbrev w : Writing
   w = staged v Settling
@@ -105,7 +106,7 @@ module _ (who : Caller) (book : Book) (order : List Entry) (s t : CloudState) (p
     noted : noted_at Settling w (head_ask w) (audit_of book order) ≡ audit_of su.book su.order
     noted = ap (λ (log : List AtomicRec). audit_of (record book { log = log }) order) (sym (append-nil book.log))
 
-    settled_outcome : Lands who (head_ask w) (called who t.now s) t → OutcomeAt who book order s t parts w reply Settling
+    settled_outcome : Lands who (head_ask w) (called who t.now s) t → OutcomeAt (footing book order s) t (committer parts who.session w) w reply Settling
     settled_outcome lands =
         put_landed who book order s t parts (w.home.lease ∷ []) (noted_at Settling w (head_ask w)) (KnowsNext step) (object.Head client) w.out w.home.lease None su lands (ready.setting).cloud
         (landing.settles client w.home.head w.out w.home.lease None sound settles) tt tt tt (part_next step (AtHome rested))
@@ -113,10 +114,10 @@ module _ (who : Caller) (book : Book) (order : List Entry) (s t : CloudState) (p
         (leads su t.now (AtHome rested) (comes w reply) after_stands (λ done. deletes))
         noted
 
-  pub settling_outcome : OutcomeAt who book order s t parts w reply Settling
+  pub settling_outcome : OutcomeAt (footing book order s) t (committer parts who.session w) w reply Settling
   settling_outcome = on (put_cases who (object.Head client) w.out w.home.lease None reply s t call)
     where
-      on : ((t ≡ called who t.now s) × (done_of reply ≡ Ok tt → ⊥)) ⊎ Lands who (head_ask w) (called who t.now s) t → OutcomeAt who book order s t parts w reply Settling
+      on : ((t ≡ called who t.now s) × (done_of reply ≡ Ok tt → ⊥)) ⊎ Lands who (head_ask w) (called who t.now s) t → OutcomeAt (footing book order s) t (committer parts who.session w) w reply Settling
       on (inl p) =
           stays who book order s t parts (w.home.lease ∷ []) (head_ask w) (noted_at Settling w (head_ask w)) (KnowsNext step) p.0 (ready.setting).cloud (part_next step part)
           (next_homes st.tally t.now parts who.session part step (homes who book order s t.now parts w part g ready))

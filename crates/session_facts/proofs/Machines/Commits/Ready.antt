@@ -1,6 +1,6 @@
 -- What stands before a call of a commit, and what that says of its home.
 use Rattle.std.proofs.Common.{◌≡◌, ℕ, List, [], ◌∷◌, refl, sym, subst, ◌∙◌}
-use Rattle.cloud_facts.specs.Calls.Acting.{Setting, Outcome}
+use Rattle.cloud_facts.specs.Calls.Acting.{Footing, footing, Actor, actor, Setting, Outcome}
 use Rattle.cloud_facts.specs.Words.{Entry, Answer, CloudState, Caller, Claim, Lasts, Book, at, store_of}
 use Rattle.session_facts.specs.Machines.Commits.Knows.{attempt_of, KnowsNext}
 use Rattle.session_facts.specs.Machines.Commits.Audited.{noted_at}
@@ -10,18 +10,22 @@ use Rattle.commit_writes.specs.Writing.{Writing, ask_at, next_at}
 use Rattle.cloud_facts.specs.Homes.Homes.{Home, Part, AtHome, Parts, IsAlone, HomeHolds, PartHolds, HomesHold}
 use Rattle.cloud_facts.proofs.Homes.HomeLemmas.{keeps_part}
 
+-- the session that commits has its home's lease in hand
+abbrev pub committer : Parts → ℕ → Writing → Actor
+committer parts session w = actor parts session (w.home.lease ∷ [])
+
 -- the part of the session is at home for the transaction
-pub record Ready (who : Caller) (book : Book) (order : List Entry) (s : CloudState) (now : ℕ) (parts : Parts) (w : Writing) (part : Part) (g : Home) : Type 0 where
-  pub setting : Setting book order s now parts who.session (w.home.lease ∷ [])
-  pub is : parts who.session ≡ part
+pub record Ready (on : Footing) (now : ℕ) (by : Actor) (w : Writing) (part : Part) (g : Home) : Type 0 where
+  pub setting : Setting on now by
+  pub is : by.parts by.session ≡ part
   pub stands : Stands (attempt_of w) w.changes part g
 
 -- the outcome of the call of a stage
-abbrev pub OutcomeAt : Caller → Book → List Entry → CloudState → CloudState → Parts → Writing → Answer → Stage → Type 0
-OutcomeAt who book order s t parts w reply stage = Outcome who book order s t parts (w.home.lease ∷ []) (ask_at stage w) (noted_at stage w (ask_at stage w)) (KnowsNext (next_at stage w reply))
+abbrev pub OutcomeAt : Footing → CloudState → Actor → Writing → Answer → Stage → Type 0
+OutcomeAt on t by w reply stage = Outcome on t by (ask_at stage w) (noted_at stage w (ask_at stage w)) (KnowsNext (next_at stage w reply))
 
 module _ (who : Caller) (book : Book) (order : List Entry) (s : CloudState) (now : ℕ) (parts : Parts) (w : Writing) (part : Part) (g : Home)
-    (ready : Ready who book order s now parts w part g) where
+    (ready : Ready (footing book order s) now (committer parts who.session w) w part g) where
   pub at_home : parts who.session ≡ AtHome g
   at_home = ready.is ∙ ((ready.stands).home).part_is
 

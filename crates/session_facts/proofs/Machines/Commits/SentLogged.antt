@@ -2,7 +2,7 @@
 use Rattle.std.proofs.Common.{◌≡◌, ◌+◌, ◌⊎◌, inl, inr, ℕ, suc, List, [], ◌∷◌, ◌++◌, length, take, Some, Ok, refl, sym, ap, subst, ◌∙◌, arith}
 use Rattle.std.specs.Prelude.{slice_get}
 use Rattle.session_facts.specs.Machines.Openings.Client.{KnowsClient}
-use Rattle.cloud_facts.specs.Calls.Acting.{opened_client}
+use Rattle.cloud_facts.specs.Calls.Acting.{footing, opened_client}
 use Rattle.cloud_facts.specs.Words.{QueueName, Entry, AtomicRec, Answer, Posted, CloudState, called, Caller, Send, sent_of, Book, Store, at, IsIn, store_of, IsCall}
 use Rattle.cloud_facts.proofs.Calls.Calls.{send_cases}
 use Rattle.cloud_facts.proofs.Calls.Outcomes.{stays, other_landed}
@@ -14,7 +14,7 @@ use Rattle.session_facts.proofs.Machines.Commits.Records.{take_next, record_of, 
 use Rattle.session_facts.proofs.Machines.Commits.Others.{routes_others}
 use Rattle.session_facts.proofs.Machines.Commits.Logged.{logs}
 use Rattle.session_facts.proofs.Machines.Commits.Nexts.{WriteStep, Stands, part_next, next_homes, knows_home, leads}
-use Rattle.session_facts.proofs.Machines.Commits.Ready.{Ready, OutcomeAt, at_home, holds, homes}
+use Rattle.session_facts.proofs.Machines.Commits.Ready.{committer, Ready, OutcomeAt, at_home, holds, homes}
 use Rattle.commit_writes.specs.declared.stage.Stage.TheVariants.{Logging}
 use Rattle.commit_writes.specs.Writing.{Writing, log_ask, writing_next}
 use Rattle.commit_writes.proofs.Outcomes.{comes, at as staged}
@@ -38,7 +38,7 @@ sent_id who queue bytes (Sent k) s t call id e = let same : k ≡ id = cc in sym
 sent_id who queue bytes answer s t call id e = absurd (cc)
 
 module _ (who : Caller) (book : Book) (order : List Entry) (s t : CloudState) (parts : Parts) (v : Writing) (reply : Answer) (part : Part) (g : Home)
-    (ready : Ready who book order s t.now parts (staged v Logging) part g) (a : LogsNext (store_of book order s) t.now (staged v Logging) g) (r : AtomicRec)
+    (ready : Ready (footing book order s) t.now (committer parts who.session (staged v Logging)) (staged v Logging) part g) (a : LogsNext (store_of book order s) t.now (staged v Logging) g) (r : AtomicRec)
     (there : slice_get v.records v.place ≡ Some r) (reads : atomic_of v.out ≡ Some r) (call : IsCall who (log_ask v) reply s t) where
   abbrev w : Writing
   w = staged v Logging
@@ -120,7 +120,7 @@ module _ (who : Caller) (book : Book) (order : List Entry) (s t : CloudState) (p
       on (inl old) = messages_stay st su (attempt_of w) w.ids (logged_grows st client post) a.messages x old
       on (inr last) = subst (IsMessageOf su (attempt_of w)) (get_single id last.0 x last.1) new
 
-  pub logging_outcome : OutcomeAt who book order s t parts w reply Logging
+  pub logging_outcome : OutcomeAt (footing book order s) t (committer parts who.session w) w reply Logging
   logging_outcome = on (send_cases who (Atomic client) w.out reply s t call)
     where
       left : (u : Store) (p : Part) (h : Home) → Stands (attempt_of w) w.changes p h → Routes u t.now (attempt_of w) w.changes w.records w.home.head
@@ -133,7 +133,7 @@ module _ (who : Caller) (book : Book) (order : List Entry) (s t : CloudState) (p
           routes_others st su t.now t.now (attempt_of w) (omega arith) (λ lasts. refl) (λ q is of. is) (ready.stands).client (logged_grows st client post) w.changes w.records
           w.home.head a.routes
 
-      on : ((t ≡ called who t.now s) × ((id : ℕ) → sent_of reply ≡ Ok id → ⊥)) ⊎ Lands who (log_ask w) (called who t.now s) t → OutcomeAt who book order s t parts w reply Logging
+      on : ((t ≡ called who t.now s) × ((id : ℕ) → sent_of reply ≡ Ok id → ⊥)) ⊎ Lands who (log_ask w) (called who t.now s) t → OutcomeAt (footing book order s) t (committer parts who.session w) w reply Logging
       on (inl p) =
           stays who book order s t parts (w.home.lease ∷ []) (log_ask w) (noted_at Logging w (log_ask w)) (KnowsNext step) p.0 (ready.setting).cloud (part_next step part)
           (next_homes st.tally t.now parts who.session part step (homes who book order s t.now parts w part g ready))

@@ -3,7 +3,7 @@ use Rattle.std.proofs.Common.{◌≡◌, ◌≤◌, ◌<◌, ◌+◌, ◌⊎◌,
 use Rattle.std.specs.Prelude.{slice_get}
 use Rattle.std.proofs.lemmas.Bool.{cases_lt}
 use Rattle.cloud_facts.specs.Words.{IsClient, Entry, AtomicRec, Head, Answer, CloudState, called, Caller, Ask, Send, sent_of, Book, Store, at, IsIn, store_of, IsCall}
-use Rattle.cloud_facts.specs.Calls.Acting.{Outcome}
+use Rattle.cloud_facts.specs.Calls.Acting.{footing, actor, Outcome}
 use Rattle.cloud_facts.specs.Calls.Others.{WasSentOn, Passes}
 use Rattle.cloud_facts.proofs.Calls.Calls.{send_cases}
 use Rattle.cloud_facts.proofs.Calls.Outcomes.{stays, other_landed}
@@ -14,7 +14,7 @@ use Rattle.session_facts.specs.Machines.Commits.Audited.{noted_at}
 use Rattle.session_facts.proofs.Machines.Commits.Records.{messages_stay}
 use Rattle.session_facts.proofs.Machines.Commits.Others.{sent_others, opened_others}
 use Rattle.session_facts.proofs.Machines.Commits.Nexts.{WriteStep, part_next, next_homes, leads}
-use Rattle.session_facts.proofs.Machines.Commits.Ready.{Ready, homes}
+use Rattle.session_facts.proofs.Machines.Commits.Ready.{committer, Ready, homes}
 use Rattle.session_facts.proofs.Machines.Commits.Settled.{queue_is, posts_record, posted_waits, posted_copied}
 use Rattle.commit_writes.specs.declared.stage.Stage.TheVariants.{Sending}
 use Rattle.commit_writes.specs.Writing.{Writing, writing_next}
@@ -36,7 +36,7 @@ use Rattle.cloud_facts.specs.Book.Telling.{queue_of}
 use Rattle.cloud_facts.proofs.Book.GrowthLemmas.{posted_grows}
 
 module _ (who : Caller) (book : Book) (order : List Entry) (s t : CloudState) (parts : Parts) (v : Writing) (reply : Answer) (part : Part) (g : Home)
-    (ready : Ready who book order s t.now parts (staged v Sending) part g) (a : SendsNext (store_of book order s) t.now (staged v Sending)) (r : AtomicRec)
+    (ready : Ready (footing book order s) t.now (committer parts who.session (staged v Sending)) (staged v Sending) part g) (a : SendsNext (store_of book order s) t.now (staged v Sending)) (r : AtomicRec)
     (there : slice_get v.records v.place ≡ Some r) (reads : pu_of v.out ≡ Some (pu_record_of r)) where
   abbrev w : Writing
   w = staged v Sending
@@ -51,7 +51,7 @@ module _ (who : Caller) (book : Book) (order : List Entry) (s t : CloudState) (p
   send = Send (queue_of r.tree r.page) w.out
 
   abbrev OutcomeOf : Ask → Type 0
-  OutcomeOf ask = Outcome who book order s t parts (w.home.lease ∷ []) ask (noted_at Sending w ask) (KnowsNext step)
+  OutcomeOf ask = Outcome (footing book order s) t (actor parts who.session (w.home.lease ∷ [])) ask (noted_at Sending w ask) (KnowsNext step)
 
   is_logged : (q : AtomicRec) → IsIn w.records q → IsIn book.log q
   is_logged q is = ((a.has).logged q is).0

@@ -5,7 +5,7 @@ use Rattle.std.proofs.lemmas.Bool.{ne_eqb}
 use Rattle.std.proofs.lemmas.List.{append-nil, length-reverse}
 use Rattle.cloud_facts.specs.Chains.Chain.{IsChained}
 use Rattle.cloud_facts.specs.Chains.Links.{top_of}
-use Rattle.cloud_facts.specs.Calls.Acting.{Aside, Outcome}
+use Rattle.cloud_facts.specs.Calls.Acting.{footing, actor, Aside, Outcome}
 use Rattle.cloud_facts.specs.Words.{IsClient, IsTree, Trouble, ObjName, Entry, PuItem, Leaf, Answer, CloudState, called, Caller, Claim, Lasts, Ask, PutHeld, done_of, Book, Store, at, IsIn, nodes_of, roots_of, store_of, IsCall, StandsUnder}
 use Rattle.cloud_facts.specs.Calls.Looks.{audit_of}
 use Rattle.cloud_facts.proofs.Calls.Calls.{permitted, put_cases, put_lasts}
@@ -77,7 +77,7 @@ module _ (who : Caller) (s t : CloudState) (book : Book) (order : List Entry) (p
   Known = Aside st own (λ u now. KnowsStep u now lease ids (folding_next f reply))
 
   abbrev OutAt : Ask → Type 0
-  OutAt ask = Outcome who book order s t parts mine ask (fold_note f ask) Known
+  OutAt ask = Outcome (footing book order s) t (actor parts who.session mine) ask (fold_note f ask) Known
 
   still : HomesHold st.tally t.now (at who.session own parts)
   still = keeps_part st.tally t.now parts who.session own refl homes

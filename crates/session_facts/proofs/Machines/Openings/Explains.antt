@@ -6,7 +6,7 @@ use Rattle.client_work.specs.declared.answer.Answer.TheVariants as answer
 use Rattle.client_work.specs.declared.work.Work.{Work}
 use Rattle.client_work.specs.declared.work.Work.TheVariants.{Opening}
 use Rattle.cloud_facts.specs.Words.{Trouble, Entry, Answer as Reply, Turn, More, Ended, Stopped, CloudState, Caller, Seen, Goes, Stops, Book, Store, store_of}
-use Rattle.cloud_facts.specs.Calls.Acting.{Setting}
+use Rattle.cloud_facts.specs.Calls.Acting.{footing, actor, Setting}
 use Rattle.cloud_facts.specs.Homes.Homes.{PartHolds}
 use Rattle.cloud_facts.proofs.Calls.Calls.{call_of}
 use Rattle.cloud_trait.specs.Weather.{Makes}
@@ -48,7 +48,7 @@ module _ (who : Caller) (before after : Seen) (s t : CloudState) (book : Book) (
         later : s.now ≤ t.now
         later = (call_of who (recovery_ask r) reply before after s t made told told_after).later
 
-        setting : Setting book order s t.now stand.parts who.session (leases_of (sessions who.session).work)
+        setting : Setting (footing book order s) t.now (actor stand.parts who.session (leases_of (sessions who.session).work))
         setting = setting_of book order s sessions stand t.now who.session later
 
         holds : PartHolds st.tally t.now (stand.parts who.session)

@@ -1,7 +1,7 @@
 -- The leases of an opening.
 use Rattle.std.proofs.Common.{◌≡◌, ◌⊎◌, inl, inr, ℕ, List, [], ◌∷◌, ◌++◌, Option, Some, None, refl, sym, subst}
 use Rattle.std.specs.Prelude.{slice_get}
-use Rattle.cloud_facts.specs.Calls.Acting.{Handles, of_option}
+use Rattle.cloud_facts.specs.Calls.Acting.{exchange, Handles, of_option}
 use Rattle.cloud_facts.specs.Words.{Entry, Answer, CloudState, called, Caller, Claim, Ask, GetHeld, PutHeld, Receive, Delete, Take, Release, Book, Store, IsIn, store_of}
 use Rattle.cloud_trait.specs.declared.answer.Answer.TheVariants.{Given}
 use Rattle.db_base.specs.declared.names.Lock.TheVariants as lock
@@ -43,7 +43,7 @@ no_claim client = record { lock = lock.Client client; generation = 0; end = 0 }
 
 module _ (who : Caller) (s t : CloudState) (r : Recovery) (reply : Answer) (next : Step) where
   abbrev Hands : Ask → Type 0
-  Hands ask = Handles who s t ask reply (leases_of_recovery r) (leases_of_next next)
+  Hands ask = Handles (exchange who s t ask reply) (leases_of_recovery r) (leases_of_next next)
 
   -- a call that keeps the leases in hand
   keeps : (ask : Ask) → Owns (λ session. leases_of_recovery r) who.session ask → IsGuarded s t.now ask → RenewedTo who ask (no_claim r.client) (called who t.now s) t
@@ -97,7 +97,7 @@ taken r l x is = on (in_either (of_option r.former) (l ∷ []) x is)
 
 module _ (who : Caller) (s t : CloudState) (st : Store) (part : Part) where
   handles : {r : Recovery} {a : Answer} {next : Step} → Turns r a next → KnowsOpeningAt r.stage st t.now r part
-      → Handles who s t (recovery_ask r) a (leases_of_recovery r) (leases_of_next next)
+      → Handles (exchange who s t (recovery_ask r) a) (leases_of_recovery r) (leases_of_next next)
   handles {r = r} {a = a} {next = next} (turn.gives_old m b) k =
       let f : HasFormer r.former r.lease = k.0 in
       releases who s t r a next r.former f.old f.is (former_in_hand r.former r.lease f.old f.is)
@@ -113,5 +113,5 @@ module _ (who : Caller) (s t : CloudState) (st : Store) (part : Part) where
 
 -- the leases of a call of an opening, and those in hand where it leads
 pub opening_handles : (who : Caller) (book : Book) (order : List Entry) (s t : CloudState) (r : Recovery) (part : Part) (reply : Answer) → KnowsOpening (store_of book order s) t.now r part
-    → Handles who s t (recovery_ask r) reply (leases_of_recovery r) (leases_of_next (recovery_next r reply))
+    → Handles (exchange who s t (recovery_ask r) reply) (leases_of_recovery r) (leases_of_next (recovery_next r reply))
 opening_handles who book order s t r part reply k = handles who s t (store_of book order s) part (turns r reply) k.at

@@ -3,7 +3,7 @@ use Rattle.std.proofs.Common.{◌≡◌, ◌+◌, ◌<◌, ◌≤◌, ◌⊎◌,
 use Rattle.std.specs.Prelude.{slice_get}
 use Rattle.std.specs.List.{AllByRecursion}
 use Rattle.std.proofs.lemmas.List.{append-nil}
-use Rattle.cloud_facts.specs.Calls.Acting.{opened_client, IsPruned, KnowsHome, Setting, Outcome}
+use Rattle.cloud_facts.specs.Calls.Acting.{footing, actor, opened_client, IsPruned, KnowsHome, Setting, Outcome}
 use Rattle.cloud_facts.specs.Words.{IsClient, Entry, AtomicRec, Head, Answer, CloudState, called, Caller, Lasts, Ask, PutHeld, Send, Delete, done_of, sent_of, Book, Store, at, IsIn, store_of, IsCall}
 use Rattle.cloud_facts.specs.Calls.Looks.{audit_of}
 use Rattle.cloud_facts.specs.Calls.Others.{Passes, WasSentOn}
@@ -47,7 +47,7 @@ use Rattle.cloud_facts.specs.Book.Telling.{queue_of}
 use Rattle.cloud_facts.proofs.Book.Names.{at_same}
 
 module _ (who : Caller) (book : Book) (order : List Entry) (s t : CloudState) (parts : Parts) (r : Recovery) (part : Part) (reply : Answer)
-    (setting : Setting book order s t.now parts who.session (leases_of_recovery r)) (mine : parts who.session ≡ part) (is : IsClient r.client) where
+    (setting : Setting (footing book order s) t.now (actor parts who.session (leases_of_recovery r))) (mine : parts who.session ≡ part) (is : IsClient r.client) where
   abbrev st : Store
   st = store_of book order s
 
@@ -57,7 +57,7 @@ module _ (who : Caller) (book : Book) (order : List Entry) (s t : CloudState) (p
 
   -- what a call of the stage leaves
   abbrev pub Leaves : Stage → Ask → Type 0
-  Leaves stage ask = Outcome who book order s t parts (leases_of_recovery r) ask (λ a. a) (KnowsNext (next stage))
+  Leaves stage ask = Outcome (footing book order s) t (actor parts who.session (leases_of_recovery r)) ask (λ a. a) (KnowsNext (next stage))
 
   pub after : (stage : Stage) (u : Store) (p : Part) → HomesHold u.tally t.now (at who.session p parts)
       → KnowsBehind who.session parts u t.now p stage (at_stage r stage) reply → LeadsToPart who.session parts u t.now (next stage)

@@ -3,7 +3,7 @@ use Rattle.std.proofs.Common.{◌≡◌, ◌≤◌, ℕ, List, [], ◌∷◌, le
 use Rattle.std.specs.Prelude.{slice_get, All}
 use Rattle.std.specs.List.{AllByRecursion}
 use Rattle.std.proofs.lemmas.List.Elements.{recursion_from_All}
-use Rattle.cloud_facts.specs.Calls.Acting.{Setting, Outcome}
+use Rattle.cloud_facts.specs.Calls.Acting.{footing, actor, Setting, Outcome}
 use Rattle.cloud_facts.specs.Words.{IsClient, ObjName, QueueName, Lock, Entry, Answer, CloudState, newest, Caller, Claim, Lasts, Ask, GetHeld, PutHeld, Send, Receive, Delete, Take, Release, got_of, given_of, received_of, Book, Store, store_of, IsCall}
 use Rattle.cloud_facts.proofs.Calls.Heads.{head_at, newest_head, held_seen}
 use Rattle.cloud_facts.proofs.Calls.Outcomes.{quiet}
@@ -50,13 +50,13 @@ received_sent who q a s t call ms got = absurd (cc)
 -- ---- by the stage
 
 module _ (who : Caller) (book : Book) (order : List Entry) (s t : CloudState) (parts : Parts) (r : Recovery) (part : Part) (reply : Answer)
-    (setting : Setting book order s t.now parts who.session (leases_of_recovery r)) (mine : parts who.session ≡ part) (is : IsClient r.client) (call : IsCall who (recovery_ask r) reply s t)
+    (setting : Setting (footing book order s) t.now (actor parts who.session (leases_of_recovery r))) (mine : parts who.session ≡ part) (is : IsClient r.client) (call : IsCall who (recovery_ask r) reply s t)
     (fits : Fits (recovery_ask r) reply) where
   abbrev st : Store
   st = store_of book order s
 
   abbrev Out : Type 0
-  Out = Outcome who book order s t parts (leases_of_recovery r) (recovery_ask r) (λ a. a) (KnowsNext (recovery_next r reply))
+  Out = Outcome (footing book order s) t (actor parts who.session (leases_of_recovery r)) (recovery_ask r) (λ a. a) (KnowsNext (recovery_next r reply))
 
   abbrev Stay : Stage → Ask → Type 0
   Stay stage ask = Leaves who book order s t parts r part reply setting mine is stage ask
@@ -186,6 +186,6 @@ module _ (who : Caller) (book : Book) (order : List Entry) (s t : CloudState) (p
 
 -- a call of an opening
 pub opening_outcome : (who : Caller) (book : Book) (order : List Entry) (s t : CloudState) (parts : Parts) (r : Recovery) (part : Part) (reply : Answer)
-    → Setting book order s t.now parts who.session (leases_of_recovery r) → parts who.session ≡ part → KnowsOpening (store_of book order s) t.now r part → IsSound r
-    → IsCall who (recovery_ask r) reply s t → Fits (recovery_ask r) reply → Outcome who book order s t parts (leases_of_recovery r) (recovery_ask r) (λ a. a) (KnowsNext (recovery_next r reply))
+    → Setting (footing book order s) t.now (actor parts who.session (leases_of_recovery r)) → parts who.session ≡ part → KnowsOpening (store_of book order s) t.now r part → IsSound r
+    → IsCall who (recovery_ask r) reply s t → Fits (recovery_ask r) reply → Outcome (footing book order s) t (actor parts who.session (leases_of_recovery r)) (recovery_ask r) (λ a. a) (KnowsNext (recovery_next r reply))
 opening_outcome who book order s t parts r part reply setting mine k sound call fits = by_stage who book order s t parts r part reply setting mine k.client call fits k.at sound

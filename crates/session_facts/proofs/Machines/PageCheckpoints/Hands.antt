@@ -3,7 +3,7 @@ use Rattle.std.proofs.Common.{◌≡◌, ◌⊎◌, inl, inr, ℕ, false, zero, 
 use Rattle.ckpt_parts.specs.Deleting.{next_id}
 use Rattle.ckpt_parts.specs.Leasing.{claims_of, outstanding_after}
 use Rattle.ckpt_parts.specs.declared.leases.Leases.{Leases}
-use Rattle.cloud_facts.specs.Calls.Acting.{Setting, Handles}
+use Rattle.cloud_facts.specs.Calls.Acting.{footing, exchange, actor, Setting, Handles}
 use Rattle.cloud_facts.specs.Words.{IsTree, Entry, Answer, CloudState, Caller, Claim, Ask, GetHeld, PutHeld, Receive, Delete, Release, Goes, Ends, Stops, Book, Link, IsIn, nodes_of, store_of, IsCall, StandsUnder}
 use Rattle.cloud_facts.specs.Calls.Pages.{IsLeafPage}
 use Rattle.cloud_facts.proofs.Calls.Firsts.{chain_leaf}
@@ -39,7 +39,7 @@ within left (Stops n t) none x is = absurd (in_none [] x refl is)
 module _ (who : Caller) (s t : CloudState) (book : Book) (order : List Entry) (cloud : StandsUnder book order s) (home : Claim) (client : ℕ)
     (home_lock : home.lock ≡ lock.Client client) (p : Paging) (reply : Answer) (of_tree : IsTree p.tree) (after : List Claim) where
   abbrev By : Ask → List Claim → Type 0
-  By ask mine = AreLeft who s t home reply after ask mine → Handles who s t ask reply (home ∷ mine) after
+  By ask mine = AreLeft who s t home reply after ask mine → Handles (exchange who s t ask reply) (home ∷ mine) after
 
   -- at a stage, with these leases
   abbrev Hand : Stage → Leases → Type 0
@@ -95,8 +95,8 @@ module _ (who : Caller) (s t : CloudState) (book : Book) (order : List Entry) (c
 
 -- a call of a page checkpoint beside its home's lease, and where its answer leads
 pub paging_handles : (who : Caller) (s t : CloudState) (book : Book) (order : List Entry) (parts : Parts) (leases : List Claim) (p : Paging) (reply : Answer)
-    → Setting book order s t.now parts who.session leases → KnowsPaging (store_of book order s) s.now p → IsCall who (paging_ask p) reply s t → (home : Claim) (client : ℕ)
-    → home.lock ≡ lock.Client client → (next : Step) → PagingLeads p reply next → Handles who s t (paging_ask p) reply (home ∷ leases_of_paging p) (home ∷ leases_next next)
+    → Setting (footing book order s) t.now (actor parts who.session leases) → KnowsPaging (store_of book order s) s.now p → IsCall who (paging_ask p) reply s t → (home : Claim) (client : ℕ)
+    → home.lock ≡ lock.Client client → (next : Step) → PagingLeads p reply next → Handles (exchange who s t (paging_ask p) reply) (home ∷ leases_of_paging p) (home ∷ leases_next next)
 paging_handles who s t book order parts leases p reply setting k call home client home_lock next leads =
     hands_at who s t book order setting.cloud home client home_lock p reply k.tree (home ∷ leases_next next) s.now p.stage k.at (λ x there. on x (in_either (home ∷ []) (leases_next next) x there))
   where
@@ -106,7 +106,7 @@ paging_handles who s t book order parts leases p reply setting k call home clien
 
 -- and wherever it leads the home's lease is in hand
 pub paging_home_handles : (who : Caller) (s t : CloudState) (book : Book) (order : List Entry) (parts : Parts) (leases : List Claim) (p : Paging) (reply : Answer)
-    → Setting book order s t.now parts who.session leases → KnowsPaging (store_of book order s) s.now p → IsCall who (paging_ask p) reply s t → (home : Claim) (client : ℕ)
-    → home.lock ≡ lock.Client client → Handles who s t (paging_ask p) reply (home ∷ leases_of_paging p) (home ∷ [])
+    → Setting (footing book order s) t.now (actor parts who.session leases) → KnowsPaging (store_of book order s) s.now p → IsCall who (paging_ask p) reply s t → (home : Claim) (client : ℕ)
+    → home.lock ≡ lock.Client client → Handles (exchange who s t (paging_ask p) reply) (home ∷ leases_of_paging p) (home ∷ [])
 paging_home_handles who s t book order parts leases p reply setting k call home client home_lock =
     hands_at who s t book order setting.cloud home client home_lock p reply k.tree (home ∷ []) s.now p.stage k.at (λ x there. inl (get_single home there.0 x there.1))

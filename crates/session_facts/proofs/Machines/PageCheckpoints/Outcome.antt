@@ -9,7 +9,7 @@ use Rattle.cloud_facts.proofs.Chains.Pieces.{none_in}
 use Rattle.ckpt_parts.specs.Deleting.{next_id}
 use Rattle.ckpt_parts.specs.Leaves.{HoldsLinked}
 use Rattle.ckpt_parts.specs.declared.leases.Leases.{Leases}
-use Rattle.cloud_facts.specs.Calls.Acting.{Setting, Outcome, Aside}
+use Rattle.cloud_facts.specs.Calls.Acting.{footing, actor, Setting, Outcome, Aside}
 use Rattle.cloud_facts.specs.Words.{Trouble, QueueName, Lock, Entry, PuItem, Leaf, Answer, CloudState, called, Caller, Claim, Ask, GetHeld, PutHeld, Receive, Delete, Take, Release, Stops, done_of, got_of, Book, Link, Store, Leafy, at, IsIn, nodes_of, roots_of, store_of, IsCall}
 use Rattle.cloud_facts.specs.Calls.Looks.{audit_of}
 use Rattle.cloud_facts.proofs.Calls.Calls.{landed_or_not, permitted, put_cases, put_lasts}
@@ -70,7 +70,7 @@ sent who q most a s t call ms e =
     recursion_from_All (WasSent (s.messages q)) ms answered.row.1
 
 module _ (who : Caller) (s t : CloudState) (book : Book) (order : List Entry) (parts : Parts) (leases : List Claim) (p : Paging) (reply : Answer)
-    (setting : Setting book order s t.now parts who.session leases) (of_page : nexts.IsOfPage p) where
+    (setting : Setting (footing book order s) t.now (actor parts who.session leases)) (of_page : nexts.IsOfPage p) where
   abbrev st : Store
   st = store_of book order s
 
@@ -86,7 +86,7 @@ module _ (who : Caller) (s t : CloudState) (book : Book) (order : List Entry) (p
 
   -- what a call leaves there
   abbrev By : Stage → Ask → Type 0
-  By stage ask = IsCall who ask reply s t → Outcome who book order s t parts leases ask (paging_note (here stage) ask) (Aside st own (After stage))
+  By stage ask = IsCall who ask reply s t → Outcome (footing book order s) t (actor parts who.session leases) ask (paging_note (here stage) ask) (Aside st own (After stage))
 
   abbrev Out : Stage → Type 0
   Out stage = By stage (ask_at stage (here stage))
@@ -182,7 +182,7 @@ module _ (who : Caller) (s t : CloudState) (book : Book) (order : List Entry) (p
       grows = (landing_passes who st put su setting.cloud.holds landing).grows
 
       lands : Lands who put (called who t.now s) t → p.applying ≡ lacked leaf p.page p.run.items → nexts.Shows stage su t.now (here stage) reply
-          → Outcome who book order s t parts leases put (paging_note (here stage) put) (Aside st own (After stage))
+          → Outcome (footing book order s) t (actor parts who.session leases) put (paging_note (here stage) put) (Aside st own (After stage))
       lands landed applies shows =
           put_landed who book order s t parts leases (paging_note (here stage) put) (Aside st own (After stage)) (object.Page p.tree page) p.out one two su landed setting.cloud landing
           (is_taken book order s setting.cloud p.tree page p.page of_page.0 linked p.run.items took.clients) tt (inl refl) own
@@ -194,11 +194,11 @@ module _ (who : Caller) (s t : CloudState) (book : Book) (order : List Entry) (p
 
     -- it landed, or it was not done
     puts_by : ((reply ≡ Done → ⊥) → nexts.Shows stage st t.now (here stage) reply)
-        → (Lands who put (called who t.now s) t → Outcome who book order s t parts leases put (paging_note (here stage) put) (Aside st own (After stage))) → By stage put
+        → (Lands who put (called who t.now s) t → Outcome (footing book order s) t (actor parts who.session leases) put (paging_note (here stage) put) (Aside st own (After stage))) → By stage put
     puts_by stayed landed call = on (put_cases who (object.Page p.tree page) p.out one two reply s t call)
       where
         on : ((t ≡ called who t.now s) × (done_of reply ≡ Ok tt → ⊥)) ⊎ Lands who put (called who t.now s) t
-            → Outcome who book order s t parts leases put (paging_note (here stage) put) (Aside st own (After stage))
+            → Outcome (footing book order s) t (actor parts who.session leases) put (paging_note (here stage) put) (Aside st own (After stage))
         on (inl q) =
             stays who book order s t parts leases put (paging_note (here stage) put) (Aside st own (After stage)) q.0 setting.cloud own (homes_at st setting.homes)
             (aside stage st (λ c. refl) (stayed (λ e. q.1 (ap done_of e))))
@@ -213,7 +213,7 @@ module _ (who : Caller) (s t : CloudState) (book : Book) (order : List Entry) (p
       linked = right_linked on
 
       landed : Lands who (PutHeld (right_name p) p.out has.lease (Some has.second)) (called who t.now s) t
-          → Outcome who book order s t parts leases (PutHeld (right_name p) p.out has.lease (Some has.second)) (paging_note (here PuttingRight) (PutHeld (right_name p) p.out has.lease (Some has.second)))
+          → Outcome (footing book order s) t (actor parts who.session leases) (PutHeld (right_name p) p.out has.lease (Some has.second)) (paging_note (here PuttingRight) (PutHeld (right_name p) p.out has.lease (Some has.second)))
           (Aside st own (After PuttingRight))
       landed lands_so =
           lands PuttingRight p.at.page linked on.runs.from on.runs.took has.lease (Some has.second) puts.leaf right_is puts.puts elsewhere lands_so puts.applies (has, λ done. (comes_on, leaves))
@@ -263,7 +263,7 @@ module _ (who : Caller) (s t : CloudState) (book : Book) (order : List Entry) (p
   puts_home has puts = puts_by PuttingHome p.page puts.runs.linked puts.runs.from puts.runs.took has.lease None (λ never. (has, λ done. absurd (never done))) landed
     where
       landed : Lands who (PutHeld (home_name p) p.out has.lease None) (called who t.now s) t
-          → Outcome who book order s t parts leases (PutHeld (home_name p) p.out has.lease None) (paging_note (here PuttingHome) (PutHeld (home_name p) p.out has.lease None))
+          → Outcome (footing book order s) t (actor parts who.session leases) (PutHeld (home_name p) p.out has.lease None) (paging_note (here PuttingHome) (PutHeld (home_name p) p.out has.lease None))
           (Aside st own (After PuttingHome))
       landed lands_so =
           lands PuttingHome p.page puts.runs.linked puts.runs.from puts.runs.took has.lease None p.home newest_is puts.puts (λ same. others) lands_so puts.applies (has, λ done. covered)
@@ -310,7 +310,7 @@ module _ (who : Caller) (s t : CloudState) (book : Book) (order : List Entry) (p
       du : Store
       du = after_post_mark p.tree p.page id st
 
-      on : (t ≡ called who t.now s) ⊎ Lands who delete (called who t.now s) t → Outcome who book order s t parts leases delete (paging_note (here DeletingNext) delete) (Aside st own (After DeletingNext))
+      on : (t ≡ called who t.now s) ⊎ Lands who delete (called who t.now s) t → Outcome (footing book order s) t (actor parts who.session leases) delete (paging_note (here DeletingNext) delete) (Aside st own (After DeletingNext))
       on (inl q) =
           stays who book order s t parts leases delete (paging_note (here DeletingNext) delete) (Aside st own (After DeletingNext)) q setting.cloud own (homes_at st setting.homes)
           (aside DeletingNext st (λ c. refl) (has, each))
@@ -346,8 +346,8 @@ module _ (who : Caller) (s t : CloudState) (book : Book) (order : List Entry) (p
 
 -- a call of a page checkpoint: whatever was answered, and whether it landed or not
 pub paging_outcome : (who : Caller) (s t : CloudState) (book : Book) (order : List Entry) (parts : Parts) (leases : List Claim) (p : Paging) (reply : Answer)
-    → Setting book order s t.now parts who.session leases → KnowsPaging (store_of book order s) s.now p → IsCall who (paging_ask p) reply s t
-    → Outcome who book order s t parts leases (paging_ask p) (paging_note p (paging_ask p)) (Aside (store_of book order s) (parts who.session) (KnowsAfter p reply))
+    → Setting (footing book order s) t.now (actor parts who.session leases) → KnowsPaging (store_of book order s) s.now p → IsCall who (paging_ask p) reply s t
+    → Outcome (footing book order s) t (actor parts who.session leases) (paging_ask p) (paging_note p (paging_ask p)) (Aside (store_of book order s) (parts who.session) (KnowsAfter p reply))
 paging_outcome who s t book order parts leases p reply setting k call =
     less_known who book order s t parts leases (paging_ask p) (paging_note p (paging_ask p)) (λ u now. (next : Step) → PagingLeads p reply next → nexts.StandsWherever u now p.page next) (KnowsAfter p reply)
     (λ u stands next leads. nexts.stands_knows u t.now p next k.waits (step_rests p reply next leads) (stands next leads))
@@ -355,7 +355,7 @@ paging_outcome who s t book order parts leases p reply setting k call =
 
 -- why it stops: for no message, page, fence or way that is broken, nor for a page that a link named
 pub paging_stops : (who : Caller) (s t : CloudState) (book : Book) (order : List Entry) (parts : Parts) (leases : List Claim) (p : Paging) (reply : Answer)
-    → Setting book order s t.now parts who.session leases → KnowsPaging (store_of book order s) s.now p → IsCall who (paging_ask p) reply s t → (q : Paging) (trouble : Trouble)
+    → Setting (footing book order s) t.now (actor parts who.session leases) → KnowsPaging (store_of book order s) s.now p → IsCall who (paging_ask p) reply s t → (q : Paging) (trouble : Trouble)
     → PagingLeads p reply (Stops q trouble) → MayStopPage p.page trouble
 paging_stops who s t book order parts leases p reply setting k call q trouble leads =
     (paging_outcome who s t book order parts leases p reply setting k call).knows.knows (Stops q trouble) leads

@@ -1,6 +1,6 @@
 -- What each put of the way up leaves, whether it landed or not.
 use Rattle.std.proofs.Common.{◌≡◌, ◌+◌, ◌⊎◌, inl, inr, ℕ, List, [], ◌∷◌, ◌++◌, length, map, reverse, Option, Some, None, Result, Ok, Err, refl, sym, ap, subst, ◌∙◌}
-use Rattle.cloud_facts.specs.Calls.Acting.{Aside, Setting, Outcome}
+use Rattle.cloud_facts.specs.Calls.Acting.{footing, actor, Aside, Setting, Outcome}
 use Rattle.cloud_facts.specs.Words.{Trouble, ObjName, Entry, Head, Answer, CloudState, called, Caller, Claim, Lasts, Ask, PutHeld, done_of, Book, Store, at, IsIn, store_of, IsCall, StandsUnder}
 use Rattle.cloud_facts.specs.Calls.Looks.{audit_of}
 use Rattle.cloud_facts.proofs.Calls.Calls.{put_cases, put_lasts}
@@ -29,7 +29,7 @@ abbrev pub KnowsAfterRising : Rising → Claim → List ℕ → Answer → Store
 KnowsAfterRising r lease ids reply u now = RisesOn u now lease ids (rising_next r reply)
 
 module _ (who : Caller) (s t : CloudState) (book : Book) (order : List Entry) (parts : Parts) (mine : List Claim) (note : Audited → Audited) (lease : Claim) (r : Rising) (ids : List ℕ)
-    (reply : Answer) (setting : Setting book order s t.now parts who.session mine) (held : IsIn mine lease) (lock_is : lease.lock ≡ lock.Tree r.chart.tree)
+    (reply : Answer) (setting : Setting (footing book order s) t.now (actor parts who.session mine)) (held : IsIn mine lease) (lock_is : lease.lock ≡ lock.Tree r.chart.tree)
     (same_note : note (audit_of book order) ≡ audit_of book order) (k : KnowsRising (store_of book order s) t.now lease r ids) (call : IsCall who (rising_ask r lease) reply s t) where
   abbrev st : Store
   st = store_of book order s
@@ -59,15 +59,15 @@ module _ (who : Caller) (s t : CloudState) (book : Book) (order : List Entry) (p
 
   -- a put leaves what its effect is where it lands, and all as it was where it does not
   put_outcome : (name : ObjName) (bytes : List ℕ) → rising_ask r lease ≡ PutHeld name bytes lease None → (Lasts t.now lease → EffectOf name bytes)
-      → Outcome who book order s t parts mine (rising_ask r lease) note Known
+      → Outcome (footing book order s) t (actor parts who.session mine) (rising_ask r lease) note Known
   put_outcome name bytes asked owed =
-      subst (λ (ask : Ask). Outcome who book order s t parts mine ask note Known) (sym asked)
+      subst (λ (ask : Ask). Outcome (footing book order s) t (actor parts who.session mine) ask note Known) (sym asked)
       (on (put_cases who name bytes lease None reply s t (subst (λ (ask : Ask). IsCall who ask reply s t) asked call)))
     where
-      landed_so : Lands who (PutHeld name bytes lease None) (called who t.now s) t → Outcome who book order s t parts mine (PutHeld name bytes lease None) note Known
+      landed_so : Lands who (PutHeld name bytes lease None) (called who t.now s) t → Outcome (footing book order s) t (actor parts who.session mine) (PutHeld name bytes lease None) note Known
       landed_so lands = by (owed (put_lasts who name bytes lease None (called who t.now s) t lands))
         where
-          by : EffectOf name bytes → Outcome who book order s t parts mine (PutHeld name bytes lease None) note Known
+          by : EffectOf name bytes → Outcome (footing book order s) t (actor parts who.session mine) (PutHeld name bytes lease None) note Known
           by e =
               put_landed who book order s t parts mine note Known name bytes lease None e.after lands setting.cloud e.lands e.follows e.commits e.owes own
               (aside_keeps st.tally e.after.tally t.now (at who.session own parts) e.heads e.logged still)
@@ -90,14 +90,14 @@ module _ (who : Caller) (s t : CloudState) (book : Book) (order : List Entry) (p
                   (landing_tells who book order (called who t.now s) (PutHeld name bytes lease None) e.after first_stands.holds.chains first_stands.holds.gones first_stands.decodes e.lands e.follows)
 
       on : ((t ≡ called who t.now s) × (done_of reply ≡ Ok tt → ⊥)) ⊎ Lands who (PutHeld name bytes lease None) (called who t.now s) t
-          → Outcome who book order s t parts mine (PutHeld name bytes lease None) note Known
+          → Outcome (footing book order s) t (actor parts who.session mine) (PutHeld name bytes lease None) note Known
       on (inl q) =
           stays who book order s t parts mine (PutHeld name bytes lease None) note Known q.0 setting.cloud own still
           (record { part_is = refl; heads = λ client. refl; knows = put_leads st (λ done. absurd (q.1 done)) })
       on (inr lands) = landed_so lands
 
   abbrev Out : Type 0
-  Out = Outcome who book order s t parts mine (rising_ask r lease) note Known
+  Out = Outcome (footing book order s) t (actor parts who.session mine) (rising_ask r lease) note Known
 
   -- ---- the kinds of puts
 

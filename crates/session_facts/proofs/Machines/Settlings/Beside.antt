@@ -1,6 +1,6 @@
 -- A call that handles its leases beside any other one handles them alone.
 use Rattle.std.proofs.Common.{◌≡◌, ◌<◌, ◌+◌, ◌⊎◌, inl, inr, ℕ, zero, suc, List, [], ◌∷◌, ◌++◌, Some, None, refl, ap, arith}
-use Rattle.cloud_facts.specs.Calls.Acting.{Handles}
+use Rattle.cloud_facts.specs.Calls.Acting.{exchange, Handles}
 use Rattle.cloud_facts.specs.Words.{Answer, CloudState, Caller, Claim, Ask, Get, GetHeld, PutHeld, Send, Receive, Delete, Take, Renew, Release, IsIn}
 use Rattle.cloud_trait.specs.Ask.{ListHeld, RemoveHeld}
 use Rattle.db_base.specs.declared.names.Lock.TheVariants as lock
@@ -57,7 +57,7 @@ module _ (home : Claim) (mine : List Claim) where
 
 -- what is handled beside a lease of a client, whichever that is, is handled without one: beside a lease that is not among those in question
 pub handles_alone : (who : Caller) (s t : CloudState) (ask : Ask) (reply : Answer) (mine after : List Claim) (client : ℕ)
-    → ((home : Claim) → home.lock ≡ lock.Client client → Handles who s t ask reply (home ∷ mine) (home ∷ after)) → Handles who s t ask reply mine after
+    → ((home : Claim) → home.lock ≡ lock.Client client → Handles (exchange who s t ask reply) (home ∷ mine) (home ∷ after)) → Handles (exchange who s t ask reply) mine after
 handles_alone who s t ask reply mine after client handles = record {
   owns = owns_alone home mine who.session ask (λ x is. apart x (in_front (named ask) after x is)) h.owns;
   guarded = h.guarded;
@@ -69,7 +69,7 @@ handles_alone who s t ask reply mine after client handles = record {
     home : Claim
     home = record { lock = lock.Client client; generation = above (named ask ++ after); end = 0 }
 
-    h : Handles who s t ask reply (home ∷ mine) (home ∷ after)
+    h : Handles (exchange who s t ask reply) (home ∷ mine) (home ∷ after)
     h = handles home refl
 
     apart : (x : Claim) → IsIn (named ask ++ after) x → home ≡ x → ⊥

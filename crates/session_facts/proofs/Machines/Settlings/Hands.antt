@@ -1,6 +1,6 @@
 -- The leases of a settling.
 use Rattle.std.proofs.Common.{◌≡◌, ℕ, List, [], refl, sym, ap, subst, ◌∙◌}
-use Rattle.cloud_facts.specs.Calls.Acting.{Setting, Handles}
+use Rattle.cloud_facts.specs.Calls.Acting.{footing, exchange, actor, Setting, Handles}
 use Rattle.cloud_facts.specs.Words.{Entry, Answer, CloudState, Caller, Claim, Next, Goes, Ends, Stops, Book, IsIn, store_of, IsCall}
 use Rattle.cloud_facts.proofs.Calls.Outcomes.{fewer_handles}
 use Rattle.cloud_trait.specs.declared.turn.CkptAnswer.{CkptAnswer}
@@ -41,19 +41,19 @@ recovery_leases client (Ends m a) x is = absurd (in_none [] x refl is)
 recovery_leases client (Stops m t) x is = is
 
 module _ (who : Caller) (s t : CloudState) (book : Book) (order : List Entry) (parts : Parts) (leases : List Claim) (reply : Answer) (part : Part)
-    (setting : Setting book order s t.now parts who.session leases) where
+    (setting : Setting (footing book order s) t.now (actor parts who.session leases)) where
   abbrev Does : AtWork → List Claim → Type 0
-  Does w after = Handles who s t (part_ask w) reply (leases_at_work w) after
+  Does w after = Handles (exchange who s t (part_ask w) reply) (leases_at_work w) after
 
   opens : (client : ℕ) (m : Recovery) → KnowsAtWork (store_of book order s) s.now (Client client m) part → IsCall who (recovery_ask m) reply s t
-      → Handles who s t (recovery_ask m) reply (leases_of_recovery m) (leases_of_next (recovery_next m reply))
+      → Handles (exchange who s t (recovery_ask m) reply) (leases_of_recovery m) (leases_of_next (recovery_next m reply))
   opens client m k call = let later = at_work_later (store_of book order s) s.now t.now (Client client m) part call.later k in opening_handles who book order s t m part reply later.knows
 
   work_handles : (w : AtWork) → KnowsAtWork (store_of book order s) s.now w part → IsCall who (part_ask w) reply s t → (n : Next AtWork ℕ) → PartLeads w reply n → Does w (leases_moved n)
   work_handles (Client client m) k call n (step, leads, is) =
       subst (λ q. Does (Client client m) (leases_moved q)) (sym is)
       (fewer_handles who s t (recovery_ask m) reply (leases_of_recovery m) (leases_of_next step) (leases_moved (recovers client step)) (recovery_leases client step)
-      (subst (λ q. Handles who s t (recovery_ask m) reply (leases_of_recovery m) (leases_of_next q)) leads (opens client m k call)))
+      (subst (λ q. Handles (exchange who s t (recovery_ask m) reply) (leases_of_recovery m) (leases_of_next q)) leads (opens client m k call)))
   work_handles (Tree tree m) k call n (step, leads, is) =
       subst (Does (Tree tree m)) (making_leases tree step ∙ sym (ap leases_moved is))
       (handles_alone who s t (part_ask (Tree tree m)) reply (leases_of_making m) (leases_making step) 1
@@ -75,14 +75,14 @@ module _ (who : Caller) (s t : CloudState) (book : Book) (order : List Entry) (p
 
 -- the leases of a call of a settling, and those in hand where it leads: none at an end or a stop
 pub settling_handles : (who : Caller) (s t : CloudState) (book : Book) (order : List Entry) (parts : Parts) (leases : List Claim) (m : Settling) (part : Part) (reply : Answer)
-    → Setting book order s t.now parts who.session leases → KnowsSettling (store_of book order s) s.now m part → IsCall who (settle_ask m) reply s t → (next : Step)
-    → SettleLeads m reply next → Handles who s t (settle_ask m) reply (leases_of_settling m) (leases_next next)
+    → Setting (footing book order s) t.now (actor parts who.session leases) → KnowsSettling (store_of book order s) s.now m part → IsCall who (settle_ask m) reply s t → (next : Step)
+    → SettleLeads m reply next → Handles (exchange who s t (settle_ask m) reply) (leases_of_settling m) (leases_next next)
 settling_handles who s t book order parts leases m part reply setting k call next (n, leads, is) =
-    subst (Handles who s t (settle_ask m) reply (leases_of_settling m)) (moved_leases m n ∙ sym (ap leases_next is))
+    subst (Handles (exchange who s t (settle_ask m) reply) (leases_of_settling m)) (moved_leases m n ∙ sym (ap leases_next is))
     (work_handles who s t book order parts leases reply part setting m.part k.work call n leads)
 
 -- wherever it leads, and also where memory ran out, all may be let go
 pub settling_drops : (who : Caller) (s t : CloudState) (book : Book) (order : List Entry) (parts : Parts) (leases : List Claim) (m : Settling) (part : Part) (reply : Answer)
-    → Setting book order s t.now parts who.session leases → KnowsSettling (store_of book order s) s.now m part → IsCall who (settle_ask m) reply s t
-    → Handles who s t (settle_ask m) reply (leases_of_settling m) []
+    → Setting (footing book order s) t.now (actor parts who.session leases) → KnowsSettling (store_of book order s) s.now m part → IsCall who (settle_ask m) reply s t
+    → Handles (exchange who s t (settle_ask m) reply) (leases_of_settling m) []
 settling_drops who s t book order parts leases m part reply setting k call = work_drops who s t book order parts leases reply part setting m.part k.work call

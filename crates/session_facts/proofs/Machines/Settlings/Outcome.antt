@@ -1,7 +1,7 @@
 -- What a call of a settling leaves, whatever it was answered and whether it landed or not.
 use Rattle.std.proofs.Common.{◌≡◌, ℕ, List, Option, None, refl, sym, ap, subst, ◌∙◌}
 use Rattle.std.proofs.lemmas.List.{append-nil}
-use Rattle.cloud_facts.specs.Calls.Acting.{Setting, Outcome, Aside}
+use Rattle.cloud_facts.specs.Calls.Acting.{footing, actor, Setting, Outcome, Aside}
 use Rattle.cloud_facts.specs.Words.{IsClient, IsTree, Entry, Answer, CloudState, Caller, Ask, Get, GetHeld, PutHeld, Send, Receive, Delete, Take, Renew, Release, Next, Goes, Ends, Stops, Book, Store, store_of, IsCall}
 use Rattle.cloud_facts.proofs.Calls.Outcomes.{weaker}
 use Rattle.cloud_trait.specs.declared.turn.CkptAnswer.{CkptAnswer}
@@ -122,9 +122,9 @@ module _ (st : Store) (now : ℕ) (part : Part) where
 
 module _ (who : Caller) (s t : CloudState) (book : Book) (order : List Entry) (parts : Parts) (reply : Answer) where
   abbrev Leaves : AtWork → (Audited → Audited) → Type 0
-  Leaves w note = Outcome who book order s t parts (leases_at_work w) (part_ask w) note (KnowsBehind w reply)
+  Leaves w note = Outcome (footing book order s) t (actor parts who.session (leases_at_work w)) (part_ask w) note (KnowsBehind w reply)
 
-  work_outcome : (w : AtWork) → Setting book order s t.now parts who.session (leases_at_work w) → KnowsAtWork (store_of book order s) s.now w (parts who.session) → IsSoundPart w
+  work_outcome : (w : AtWork) → Setting (footing book order s) t.now (actor parts who.session (leases_at_work w)) → KnowsAtWork (store_of book order s) s.now w (parts who.session) → IsSoundPart w
       → IsCall who (part_ask w) reply s t → Fits (part_ask w) reply → Leaves w (note_at_work w (part_ask w))
   work_outcome (Client client m) setting k sound call fits =
       let later = at_work_later (store_of book order s) s.now t.now (Client client m) (parts who.session) call.later k in
@@ -153,9 +153,9 @@ with_way st su now part (Stops n q) grows works way = works
 
 -- a call of a settling
 pub settling_outcome : (who : Caller) (s t : CloudState) (book : Book) (order : List Entry) (parts : Parts) (m : Settling) (reply : Answer)
-    → Setting book order s t.now parts who.session (leases_of_settling m) → KnowsSettling (store_of book order s) s.now m (parts who.session) → IsSoundPart m.part
+    → Setting (footing book order s) t.now (actor parts who.session (leases_of_settling m)) → KnowsSettling (store_of book order s) s.now m (parts who.session) → IsSoundPart m.part
     → IsCall who (settle_ask m) reply s t → Fits (settle_ask m) reply
-    → Outcome who book order s t parts (leases_of_settling m) (settle_ask m) (settling_note m (settle_ask m)) (KnowsAfter m reply)
+    → Outcome (footing book order s) t (actor parts who.session (leases_of_settling m)) (settle_ask m) (settling_note m (settle_ask m)) (KnowsAfter m reply)
 settling_outcome who s t book order parts m reply setting k sound call fits = record {
   book_after = o.book_after;
   order_after = o.order_after;
@@ -175,5 +175,5 @@ settling_outcome who s t book order parts m reply setting k sound call fits = re
   noted = o.noted;
 }
   where
-    o : Outcome who book order s t parts (leases_at_work m.part) (part_ask m.part) (note_at_work m.part (part_ask m.part)) (KnowsBehind m.part reply)
+    o : Outcome (footing book order s) t (actor parts who.session (leases_at_work m.part)) (part_ask m.part) (note_at_work m.part (part_ask m.part)) (KnowsBehind m.part reply)
     o = work_outcome who s t book order parts reply m.part setting k.work sound call fits

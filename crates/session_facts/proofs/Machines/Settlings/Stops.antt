@@ -1,6 +1,6 @@
 -- Why a settling stops: for no object that is damaged, no fence, no way, no page and no stale read.
 use Rattle.std.proofs.Common.{◌≡◌, ◌∙◌, ℕ, true, false, List, Some, sym, subst}
-use Rattle.cloud_facts.specs.Calls.Acting.{Setting}
+use Rattle.cloud_facts.specs.Calls.Acting.{footing, actor, Setting}
 use Rattle.cloud_facts.specs.Words.{Trouble, Entry, Answer, CloudState, Caller, Claim, Next, Goes, Ends, Stops, Book, Store, store_of, IsCall}
 use Rattle.cloud_trait.specs.declared.turn.CkptAnswer.{CkptAnswer}
 use Rattle.db_base.specs.declared.trouble.Counter.TheVariants as counter
@@ -91,11 +91,11 @@ of_page page (trouble.NotALeaf named) may fair = absurd fair
 of_page page t may fair = absurd may
 
 module _ (who : Caller) (s t : CloudState) (book : Book) (order : List Entry) (parts : Parts) (reply : Answer) (at : Settling) (leases : List Claim)
-    (setting : Setting book order s t.now parts who.session leases) where
+    (setting : Setting (footing book order s) t.now (actor parts who.session leases)) where
   abbrev st : Store
   st = store_of book order s
 
-  part_may : (w : AtWork) → Setting book order s t.now parts who.session (leases_at_work w) → KnowsAtWork st s.now w (parts who.session) → IsCall who (part_ask w) reply s t
+  part_may : (w : AtWork) → Setting (footing book order s) t.now (actor parts who.session (leases_at_work w)) → KnowsAtWork st s.now w (parts who.session) → IsCall who (part_ask w) reply s t
       → (x : Next AtWork ℕ) → PartLeads w reply x → PartWay st at.visited x → PartMay at x
   part_may (Client client m) held k call x (step, leads, to) way = subst (PartMay at) (sym to) (on step leads)
     where
@@ -117,7 +117,7 @@ module _ (who : Caller) (s t : CloudState) (book : Book) (order : List Entry) (p
       on (Stops n q) leads way = of_page m.page q (paging_stops who s t book order parts (leases_at_work (Page tree page m)) m reply held k.knows call n q leads) way
 
 pub settling_stops : (who : Caller) (s t : CloudState) (book : Book) (order : List Entry) (parts : Parts) (reply : Answer) (m : Settling)
-    → Setting book order s t.now parts who.session (leases_of_settling m) → KnowsSettling (store_of book order s) s.now m (parts who.session)
+    → Setting (footing book order s) t.now (actor parts who.session (leases_of_settling m)) → KnowsSettling (store_of book order s) s.now m (parts who.session)
     → IsCall who (settle_ask m) reply s t → (n : Settling) (k : Trouble) → SettleLeads m reply (Stops n k) → MaySettle k
 settling_stops who s t book order parts reply m setting knows call n k (x, leads, to) =
     may_by (came_by m x (Stops n k) to)

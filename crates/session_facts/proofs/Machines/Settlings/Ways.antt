@@ -4,7 +4,7 @@ use Rattle.ckpt_parts.specs.Leaves.{HoldsLinked}
 use Rattle.ckpt_parts.specs.declared.leases.Leases.{Leases}
 use Rattle.cloud_facts.specs.Words.{IsTree, Trouble, Entry, Leaf, Answer, CloudState, newest, Caller, Claim, Ask, GetHeld, Next, Goes, Ends, Stops, got_of, Book, Link, Store, nodes_of, roots_of, store_of, IsCall}
 use Rattle.cloud_facts.specs.Book.Telling.{newest_leaf, newest_root}
-use Rattle.cloud_facts.specs.Calls.Acting.{Setting}
+use Rattle.cloud_facts.specs.Calls.Acting.{footing, actor, Setting}
 use Rattle.cloud_facts.proofs.Calls.Heads.{held_seen}
 use Rattle.cloud_facts.specs.Chains.Chain.{IsChained}
 use Rattle.cloud_facts.specs.Homes.Homes.{Parts}
@@ -48,7 +48,7 @@ fair_of (trouble.NotALeaf named) may = absurd (never named (may (suc named)).0)
 fair_of t may = tt
 
 module _ (who : Caller) (s t : CloudState) (book : Book) (order : List Entry) (parts : Parts) (leases : List Claim) (p : Paging) (reply : Answer)
-    (setting : Setting book order s t.now parts who.session leases) (k : KnowsPaging (store_of book order s) s.now p) (call : IsCall who (paging_ask p) reply s t)
+    (setting : Setting (footing book order s) t.now (actor parts who.session leases)) (k : KnowsPaging (store_of book order s) s.now p) (call : IsCall who (paging_ask p) reply s t)
     (visited : List ℕ) (comes : ComesTo (store_of book order s) p.tree p.page visited) (reads : ReadsPage (store_of book order s) p.tree p.page p) where
   abbrev L : Leaf → Type 0
   L l = IsLanded (nodes_of s p.tree) p.page l
@@ -147,7 +147,7 @@ WayIn st (Ends n x) = Unit {0}
 WayIn st (Stops n q) = Unit {0}
 
 module _ (who : Caller) (s t : CloudState) (book : Book) (order : List Entry) (parts : Parts) (leases : List Claim) (reply : Answer) (visited : List ℕ)
-    (setting : Setting book order s t.now parts who.session leases) where
+    (setting : Setting (footing book order s) t.now (actor parts who.session leases)) where
   abbrev st : Store
   st = store_of book order s
 

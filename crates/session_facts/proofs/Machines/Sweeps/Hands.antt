@@ -1,7 +1,7 @@
 -- The lease that a sweep's call names is its own and guards what it removes, and none is new but the one that it was given.
 use Rattle.std.proofs.Common.{◌≡◌, ◌≤◌, inl, inr, ℕ, zero, List, [], ◌∷◌, Option, Some, None, refl, sym, ap, subst}
 use Rattle.cloud_facts.specs.Words.{Trouble, Answer, CloudState, Caller, Claim, Take, Store, IsIn}
-use Rattle.cloud_facts.specs.Calls.Acting.{Handles}
+use Rattle.cloud_facts.specs.Calls.Acting.{exchange, Handles}
 use Rattle.cloud_facts.specs.Homes.Homes.{Part}
 use Rattle.cloud_facts.specs.Leases.Leases.{GainedBy}
 use Rattle.cloud_facts.proofs.Book.Places.{get_single, in_none}
@@ -57,7 +57,7 @@ any_lease tree = record { lock = lock.Tree tree; generation = 0; end = 0 }
 
 module _ (who : Caller) (s t : CloudState) (st : Store) (m : Sweeping) (reply : Answer) (after : List Claim) where
   abbrev Hand : Stage → Option Claim → Type 0
-  Hand stage held = Handles who s t (ask_at stage (leased m stage held)) reply (claims_of held) after
+  Hand stage held = Handles (exchange who s t (ask_at stage (leased m stage held)) reply) (claims_of held) after
 
   hands_at : (stage : Stage) (held : Option Claim) → KnowsAt stage st t.now (leased m stage held) → ((x : Claim) → IsIn after x → IsKept stage reply held x) → Hand stage held
   hands_at TakingTree None k kept = record {
@@ -76,7 +76,7 @@ module _ (who : Caller) (s t : CloudState) (st : Store) (m : Sweeping) (reply : 
   hands_at Listing None k kept = absurd k
   hands_at Removing (Some l) k kept =
       let next : next_orphan m ≡ Some k.1.0 = k.1.1 in
-      subst (λ (o : Option ℕ). Handles who s t (remove_next (leased m Removing (Some l)) l o) reply (l ∷ []) after) (sym next)
+      subst (λ (o : Option ℕ). Handles (exchange who s t (remove_next (leased m Removing (Some l)) l o) reply) (l ∷ []) after) (sym next)
       (record { owns = (zero, refl); guarded = λ lasts. k.0.0; renewed = l; renews = tt; own = λ x is. inl (kept x is, tt) })
   hands_at Removing None k kept = absurd k.0
   hands_at Releasing (Some l) k kept = record { owns = (zero, refl); guarded = tt; renewed = l; renews = tt; own = λ x is. absurd (kept x is) }
@@ -85,12 +85,12 @@ module _ (who : Caller) (s t : CloudState) (st : Store) (m : Sweeping) (reply : 
 
 -- a call of a sweep, and the lease in hand where its answer leads
 pub sweep_handles : (who : Caller) (s t : CloudState) (st : Store) (m : Sweeping) (part : Part) (reply : Answer) → s.now ≤ t.now → KnowsSweep st s.now m part → (next : Step)
-    → sweep_next m reply ≡ next → Handles who s t (sweep_ask m) reply (leases_of_sweep m) (leases_next next)
+    → sweep_next m reply ≡ next → Handles (exchange who s t (sweep_ask m) reply) (leases_of_sweep m) (leases_next next)
 sweep_handles who s t st m part reply later k next leads =
     hands_at who s t st m reply (leases_next next) m.stage m.held (sweep_later st s.now t.now m part later k).at (keeps (came_by m reply next leads))
 
 -- wherever it leads, and also where memory ran out, it may be let go
 pub sweep_drops : (who : Caller) (s t : CloudState) (st : Store) (m : Sweeping) (part : Part) (reply : Answer) → s.now ≤ t.now → KnowsSweep st s.now m part
-    → Handles who s t (sweep_ask m) reply (leases_of_sweep m) []
+    → Handles (exchange who s t (sweep_ask m) reply) (leases_of_sweep m) []
 sweep_drops who s t st m part reply later k =
     hands_at who s t st m reply [] m.stage m.held (sweep_later st s.now t.now m part later k).at (λ x is. absurd (in_none [] x refl is))

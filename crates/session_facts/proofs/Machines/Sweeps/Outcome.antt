@@ -4,7 +4,7 @@ use Rattle.std.specs.Prelude.{slice_get}
 use Rattle.std.proofs.lemmas.Option.{slice_get_within}
 use Rattle.cloud_facts.specs.Words.{IsTree, Trouble, ObjName, Entry, Tree, Answer, CloudState, called, Caller, Claim, Lasts, Ask, Stops, done_of, Book, Store, at, nodes_of, roots_of, store_of, IsCall, StandsUnder}
 use Rattle.cloud_facts.specs.Book.Effects.{after_removal}
-use Rattle.cloud_facts.specs.Calls.Acting.{Setting, Outcome}
+use Rattle.cloud_facts.specs.Calls.Acting.{footing, actor, Setting, Outcome}
 use Rattle.cloud_facts.specs.Chains.Chain.{IsChained}
 use Rattle.cloud_facts.specs.Chains.Links.{top_of}
 use Rattle.cloud_facts.specs.Homes.Homes.{Part, Parts, HomesHold}
@@ -125,7 +125,7 @@ module _ (who : Caller) (s t : CloudState) (book : Book) (order : List Entry) (p
   After stage held u now part = KnowsNext (absorbed_at stage (handed (leased m stage held)) reply) u now part
 
   abbrev OutBy : Stage → Option Claim → Ask → Type 0
-  OutBy stage held ask = Outcome who book order s t parts (claims_of held) ask (λ a. a) (After stage held)
+  OutBy stage held ask = Outcome (footing book order s) t (actor parts who.session (claims_of held)) ask (λ a. a) (After stage held)
 
   -- ---- by where it stands
 
@@ -198,14 +198,14 @@ module _ (who : Caller) (s t : CloudState) (book : Book) (order : List Entry) (p
 
 -- a call of a sweep
 pub sweep_outcome : (who : Caller) (s t : CloudState) (book : Book) (order : List Entry) (parts : Parts) (m : Sweeping) (reply : Answer)
-    → Setting book order s t.now parts who.session (leases_of_sweep m) → KnowsSweep (store_of book order s) s.now m (parts who.session)
-    → IsCall who (sweep_ask m) reply s t → Outcome who book order s t parts (leases_of_sweep m) (sweep_ask m) (λ a. a) (KnowsAfter m reply)
+    → Setting (footing book order s) t.now (actor parts who.session (leases_of_sweep m)) → KnowsSweep (store_of book order s) s.now m (parts who.session)
+    → IsCall who (sweep_ask m) reply s t → Outcome (footing book order s) t (actor parts who.session (leases_of_sweep m)) (sweep_ask m) (λ a. a) (KnowsAfter m reply)
 sweep_outcome who s t book order parts m reply setting k call =
     at_stage who s t book order parts m reply setting.cloud setting.homes m.stage m.held (sweep_later (store_of book order s) s.now t.now m (parts who.session) call.later k) call
 
 -- it stops for no fault of the tree
 pub sweep_stops : (who : Caller) (s t : CloudState) (book : Book) (order : List Entry) (parts : Parts) (reply : Answer) (m : Sweeping)
-    → Setting book order s t.now parts who.session (leases_of_sweep m) → KnowsSweep (store_of book order s) s.now m (parts who.session)
+    → Setting (footing book order s) t.now (actor parts who.session (leases_of_sweep m)) → KnowsSweep (store_of book order s) s.now m (parts who.session)
     → IsCall who (sweep_ask m) reply s t → (n : Sweeping) (k : Trouble) → sweep_next m reply ≡ Stops n k → MayStopSweep k
 sweep_stops who s t book order parts reply m setting knows call n k leads =
     let o = sweep_outcome who s t book order parts m reply setting knows call in

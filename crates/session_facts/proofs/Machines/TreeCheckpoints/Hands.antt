@@ -3,7 +3,7 @@ use Rattle.std.proofs.Common.{◌≡◌, ◌⊎◌, inl, inr, ℕ, zero, suc, Li
 use Rattle.std.specs.Prelude.{unwrap_or}
 use Rattle.ckpt_parts.specs.Deleting.{next_id}
 use Rattle.ckpt_parts.specs.Leasing.{newest_lease}
-use Rattle.cloud_facts.specs.Calls.Acting.{Handles, Setting}
+use Rattle.cloud_facts.specs.Calls.Acting.{footing, exchange, actor, Handles, Setting}
 use Rattle.cloud_facts.specs.Words.{Trouble, Entry, Answer, CloudState, called, Caller, Claim, Ask, GetHeld, Next, Goes, Ends, Stops, Book, Store, IsIn, store_of, IsCall, StandsUnder}
 use Rattle.cloud_trait.specs.declared.turn.CkptAnswer.{CkptAnswer}
 use Rattle.db_base.specs.declared.names.Lock.TheVariants as lock
@@ -93,7 +93,7 @@ module _ (who : Caller) (s t : CloudState) (home : Claim) (client : ℕ) (home_l
   Comes w = (x : Claim) → IsIn after x → (home ≡ x) ⊎ Led tree w reply x
 
   abbrev Hand : Work → Ask → Type 0
-  Hand w ask = Handles who s t ask reply (home ∷ claims_in w) after
+  Hand w ask = Handles (exchange who s t ask reply) (home ∷ claims_in w) after
 
   -- the locks of the home, of the tree and of a leaf are apart
   no_tree : (l : Claim) → OfTree tree l → home.lock ≡ l.lock → ⊥
@@ -173,9 +173,9 @@ module _ (who : Caller) (s t : CloudState) (home : Claim) (client : ℕ) (home_l
 
 -- a call of a checkpoint beside its home's lease, and where its answer leads
 pub making_handles : (who : Caller) (s t : CloudState) (book : Book) (order : List Entry) (parts : Parts) (leases : List Claim) (m : Making) (reply : Answer)
-    → Setting book order s t.now parts who.session leases → KnowsMaking (store_of book order s) s.now m → IsCall who (making_ask m) reply s t → (home : Claim) (client : ℕ)
+    → Setting (footing book order s) t.now (actor parts who.session leases) → KnowsMaking (store_of book order s) s.now m → IsCall who (making_ask m) reply s t → (home : Claim) (client : ℕ)
     → home.lock ≡ lock.Client client → (next : Next Making CkptAnswer) → MakingLeads m reply next
-    → Handles who s t (making_ask m) reply (home ∷ leases_of_making m) (home ∷ leases_next next)
+    → Handles (exchange who s t (making_ask m) reply) (home ∷ leases_of_making m) (home ∷ leases_next next)
 making_handles who s t book order parts leases m reply setting k call home client home_lock next leads =
     work_hands who s t home client home_lock m.tree reply (home ∷ leases_next next) book order setting.cloud m.work (making_later (store_of book order s) s.now t.now m call.later k).work comes
   where
@@ -193,8 +193,8 @@ making_handles who s t book order parts leases m reply setting k call home clien
 
 -- and wherever it leads the home's lease is in hand
 pub making_home_handles : (who : Caller) (s t : CloudState) (book : Book) (order : List Entry) (parts : Parts) (leases : List Claim) (m : Making) (reply : Answer)
-    → Setting book order s t.now parts who.session leases → KnowsMaking (store_of book order s) s.now m → IsCall who (making_ask m) reply s t → (home : Claim) (client : ℕ)
-    → home.lock ≡ lock.Client client → Handles who s t (making_ask m) reply (home ∷ leases_of_making m) (home ∷ [])
+    → Setting (footing book order s) t.now (actor parts who.session leases) → KnowsMaking (store_of book order s) s.now m → IsCall who (making_ask m) reply s t → (home : Claim) (client : ℕ)
+    → home.lock ≡ lock.Client client → Handles (exchange who s t (making_ask m) reply) (home ∷ leases_of_making m) (home ∷ [])
 making_home_handles who s t book order parts leases m reply setting k call home client home_lock =
     work_hands who s t home client home_lock m.tree reply (home ∷ []) book order setting.cloud m.work (making_later (store_of book order s) s.now t.now m call.later k).work
     (λ x there. inl (get_single home there.0 x there.1))

@@ -4,7 +4,7 @@ use Rattle.std.specs.Prelude.{unwrap_or}
 use Rattle.std.proofs.lemmas.List.{append-nil}
 use Rattle.ckpt_parts.specs.Deleting.{next_id}
 use Rattle.ckpt_parts.specs.Leasing.{newest_lease}
-use Rattle.cloud_facts.specs.Calls.Acting.{Aside, Setting, Outcome}
+use Rattle.cloud_facts.specs.Calls.Acting.{footing, actor, Aside, Setting, Outcome}
 use Rattle.cloud_facts.specs.Words.{IsTree, Trouble, Entry, Answer, CloudState, called, newest, Caller, Claim, Ask, Get, GetHeld, PutHeld, Send, Receive, Delete, Take, Renew, Release, Goes, Ends, Stops, got_of, Book, Store, at, IsIn, store_of, IsCall}
 use Rattle.cloud_facts.specs.Calls.Looks.{audit_of}
 use Rattle.cloud_facts.proofs.Calls.Calls.{landed_or_not}
@@ -47,8 +47,8 @@ use Rattle.tree_phases.specs.Rising.{rising_ask, rising_next}
 
 -- less is known
 pub less_known : (who : Caller) (book : Book) (order : List Entry) (s t : CloudState) (parts : Parts) (mine : List Claim) (ask : Ask) (note : Audited → Audited) (K L : Store → ℕ → Type 0)
-    → ((u : Store) → K u t.now → L u t.now) → Outcome who book order s t parts mine ask note (Aside (store_of book order s) (parts who.session) K)
-    → Outcome who book order s t parts mine ask note (Aside (store_of book order s) (parts who.session) L)
+    → ((u : Store) → K u t.now → L u t.now) → Outcome (footing book order s) t (actor parts who.session mine) ask note (Aside (store_of book order s) (parts who.session) K)
+    → Outcome (footing book order s) t (actor parts who.session mine) ask note (Aside (store_of book order s) (parts who.session) L)
 less_known who book order s t parts mine ask note K L less o = record {
   book_after = o.book_after;
   order_after = o.order_after;
@@ -100,7 +100,7 @@ up_note m h r (Renew l ticks) a = refl
 up_note m h r (Release l) a = refl
 
 module _ (who : Caller) (s t : CloudState) (book : Book) (order : List Entry) (parts : Parts) (mine : List Claim) (m : Making) (reply : Answer)
-    (setting : Setting book order s t.now parts who.session mine) (of_tree : IsTree m.tree) where
+    (setting : Setting (footing book order s) t.now (actor parts who.session mine)) (of_tree : IsTree m.tree) where
   abbrev st : Store
   st = store_of book order s
 
@@ -115,7 +115,7 @@ module _ (who : Caller) (s t : CloudState) (book : Book) (order : List Entry) (p
   After w u now = (next : Step) → Leads tree w reply next → KnowsWorkNext u now tree next
 
   abbrev OutBy : Work → Ask → Type 0
-  OutBy w ask = Outcome who book order s t parts mine ask (note_at m w ask) (Aside st own (After w))
+  OutBy w ask = Outcome (footing book order s) t (actor parts who.session mine) ask (note_at m w ask) (Aside st own (After w))
 
   still : HomesHold st.tally t.now (at who.session own parts)
   still = keeps_part st.tally t.now parts who.session own refl setting.homes
@@ -143,7 +143,7 @@ module _ (who : Caller) (s t : CloudState) (book : Book) (order : List Entry) (p
       seen : (v : Option (List ℕ)) → got_of reply ≡ Ok v → v ≡ newest s (object.Page f.chart.tree f.page)
       seen v = held_seen who (object.Page f.chart.tree f.page) f.lease reply s t (subst (λ (q : Ask). IsCall who q reply s t) asked call) v
   at_leaf h f held (under, inr k) call =
-      subst (λ (note : Audited → Audited). Outcome who book order s t parts mine (folding_ask f h.lease) note (Aside st own (After (work.Folding h f))))
+      subst (λ (note : Audited → Audited). Outcome (footing book order s) t (actor parts who.session mine) (folding_ask f h.lease) note (Aside st own (After (work.Folding h f))))
       (leaf_note m h f (folding_ask f h.lease))
       (less_known who book order s t parts mine (folding_ask f h.lease) (fold_note f (folding_ask f h.lease)) (λ u now. KnowsStep u now h.lease h.deletions.ids (folding_next f reply))
       (After (work.Folding h f)) (λ u on. after (work.Folding h f) (under, inr k) call u (on, put_may st t.now h.lease f h.deletions.ids k reply))
@@ -210,9 +210,9 @@ module _ (who : Caller) (s t : CloudState) (book : Book) (order : List Entry) (p
 -- ---- a call of a checkpoint
 
 pub making_outcome : (who : Caller) (s t : CloudState) (book : Book) (order : List Entry) (parts : Parts) (leases : List Claim) (m : Making) (reply : Answer)
-    → Setting book order s t.now parts who.session leases → ((x : Claim) → IsIn (leases_of_making m) x → IsIn leases x) → KnowsMaking (store_of book order s) s.now m
+    → Setting (footing book order s) t.now (actor parts who.session leases) → ((x : Claim) → IsIn (leases_of_making m) x → IsIn leases x) → KnowsMaking (store_of book order s) s.now m
     → IsCall who (making_ask m) reply s t
-    → Outcome who book order s t parts leases (making_ask m) (making_note m (making_ask m)) (Aside (store_of book order s) (parts who.session) (KnowsAfter m reply))
+    → Outcome (footing book order s) t (actor parts who.session leases) (making_ask m) (making_note m (making_ask m)) (Aside (store_of book order s) (parts who.session) (KnowsAfter m reply))
 making_outcome who s t book order parts leases m reply setting within knows call =
     less_known who book order s t parts leases (making_ask m) (making_note m (making_ask m)) (After who s t book order parts leases m reply setting knows.tree m.work) (KnowsAfter m reply) after
     (work_outcome who s t book order parts leases m reply setting knows.tree m.work within (making_later (store_of book order s) s.now t.now m call.later knows).work call)
@@ -226,7 +226,7 @@ making_outcome who s t book order parts leases m reply setting within knows call
 
 -- why it stops, whatever was answered: for no page, no fence and no way that is broken
 pub making_stops : (who : Caller) (s t : CloudState) (book : Book) (order : List Entry) (parts : Parts) (leases : List Claim) (m : Making) (reply : Answer)
-    → Setting book order s t.now parts who.session leases → ((x : Claim) → IsIn (leases_of_making m) x → IsIn leases x) → KnowsMaking (store_of book order s) s.now m
+    → Setting (footing book order s) t.now (actor parts who.session leases) → ((x : Claim) → IsIn (leases_of_making m) x → IsIn leases x) → KnowsMaking (store_of book order s) s.now m
     → IsCall who (making_ask m) reply s t → (n : Making) (trouble : Trouble) → MakingLeads m reply (Stops n trouble) → MayStopTree trouble
 making_stops who s t book order parts leases m reply setting within knows call n trouble leads =
     (making_outcome who s t book order parts leases m reply setting within knows call).knows.knows (Stops n trouble) leads

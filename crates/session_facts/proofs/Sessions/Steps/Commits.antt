@@ -6,7 +6,7 @@ use Rattle.client_work.specs.declared.answer.Answer.{Answer}
 use Rattle.client_work.specs.declared.answer.Answer.TheVariants as answer
 use Rattle.client_work.specs.declared.work.Work.{Work}
 use Rattle.client_work.specs.declared.work.Work.TheVariants.{Committing, Broken}
-use Rattle.cloud_facts.specs.Calls.Acting.{Setting, Outcome, Handles}
+use Rattle.cloud_facts.specs.Calls.Acting.{footing, exchange, actor, Setting, Outcome, Handles}
 use Rattle.cloud_facts.specs.Words.{CommitAnswer, Entry, AtomicRec, Head, Answer as Reply, Turn, More, Ended, Stopped, CloudState, Caller, Seen, Claim, Ask, Get, GetHeld, PutHeld, Send, Receive, Delete, Take, Renew, Release, Next, Goes, Ends, Stops, Book, Store, store_of, IsCall}
 use Rattle.cloud_facts.proofs.Calls.Calls.{call_of}
 use Rattle.cloud_facts.proofs.Calls.Outcomes.{gives_up, weaker}
@@ -37,7 +37,7 @@ use Rattle.recover_run.specs.declared.home.Home.{Home}
 use Rattle.session_facts.specs.Sessions.Audited.{noted_head, noted_at}
 use Rattle.session_facts.specs.Sessions.Knows.{leases_of, KnowsWork}
 use Rattle.session_facts.proofs.Sessions.Kept.{KnowsBoth, kept_from}
-use Rattle.session_facts.proofs.Sessions.Steps.Leases.{IsStepOf}
+use Rattle.session_facts.proofs.Sessions.Steps.Leases.{passage, IsStepOf}
 use Rattle.session_facts.proofs.Sessions.Troubles.{memory_or}
 use Rattle.txn_buffer.specs.Noted.{Noted}
 
@@ -165,7 +165,7 @@ next_leases l (Ends m a) d work (is, same) stays = ap leases_of is ∙ (end_leas
 next_leases l (Stops m t) d work (is, same) stays = ap leases_of is ∙ ap (λ (x : Claim). x ∷ []) stays
 
 module _ (who : Caller) (before after : Seen) (book : Book) (order : List Entry) (s t : CloudState) (parts : Parts) (r : Run) (c d : Cache)
-    (setting : s.now ≤ t.now → Setting book order s t.now parts who.session ((home_of r).lease ∷ []))
+    (setting : s.now ≤ t.now → Setting (footing book order s) t.now (actor parts who.session ((home_of r).lease ∷ [])))
     (knows : s.now ≤ t.now → KnowsRun (store_of book order s) t.now (r, c) (parts who.session)) (sound : IsSoundRun r) (e : before.state ≡ Some s) (f : after.state ≡ Some t) where
   abbrev mine : List Claim
   mine = (home_of r).lease ∷ []
@@ -174,23 +174,23 @@ module _ (who : Caller) (before after : Seen) (book : Book) (order : List Entry)
   note = run_note r (run_ask r)
 
   abbrev Stepped : Work → Type 0
-  Stepped work = IsStepOf who book order s t parts (run_ask r) note (Committing r) work d
+  Stepped work = IsStepOf (footing book order s) t parts (run_ask r) note (passage who (Committing r) work d)
 
   module _ (reply : Reply) (made : Makes who (run_ask r) reply before after) where
     call : IsCall who (run_ask r) reply s t
     call = call_of who (run_ask r) reply before after s t made e f
 
-    outcome : Outcome who book order s t parts mine (run_ask r) note (KnowsRunNext (run_next (r, c) reply))
+    outcome : Outcome (footing book order s) t (actor parts who.session mine) (run_ask r) note (KnowsRunNext (run_next (r, c) reply))
     outcome = run_outcome who book order s t parts (r, c) reply (parts who.session) (setting call.later) refl (knows call.later) sound call
 
-    handles : Handles who s t (run_ask r) reply mine mine
+    handles : Handles (exchange who s t (run_ask r) reply) mine mine
     handles = run_handles who s t (r, c) reply (store_of book order s) t.now (parts who.session) (knows call.later) sound
 
     by_next : (step : Next (Run × Cache) CommitAnswer) → run_next (r, c) reply ≡ step → (work : Work) → LeadsTo step d work → Stepped work
     by_next step is work leads = record {
       reply = reply;
       call = call;
-      handles = subst (Handles who s t (run_ask r) reply mine)
+      handles = subst (Handles (exchange who s t (run_ask r) reply) mine)
           (sym (next_leases (home_of r).lease step d work leads (subst (RunLeaseStays (home_of r).lease) is (run_lease (r, c) reply)))) handles;
       outcome = weaker who book order s t parts mine (run_ask r) note (KnowsRunNext (run_next (r, c) reply)) (KnowsBoth d work)
           (λ st now part k. next_known step d work leads st now part (subst (λ n. KnowsRunNext n st now part) is k)) outcome;

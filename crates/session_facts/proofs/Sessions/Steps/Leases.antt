@@ -6,7 +6,7 @@ use Rattle.client_work.specs.declared.answer.Answer.{Answer}
 use Rattle.client_work.specs.declared.answer.Answer.TheVariants as answer
 use Rattle.client_work.specs.declared.work.Work.{Work}
 use Rattle.client_work.specs.declared.work.Work.TheVariants.{Closed, Idle, Closing, Renewing, Broken}
-use Rattle.cloud_facts.specs.Calls.Acting.{opened_client, KnowsHome, Setting, Outcome, Handles}
+use Rattle.cloud_facts.specs.Calls.Acting.{Footing, footing, exchange, actor, opened_client, KnowsHome, Setting, Outcome, Handles}
 use Rattle.cloud_facts.specs.Words.{Trouble, Entry, Answer as Reply, Turn, More, Ended, Stopped, CloudState, called, Caller, Seen, Claim, Lasts, Ask, Renew, Release, Book, Store, at, IsIn, store_of, IsCall}
 use Rattle.cloud_facts.proofs.Calls.Calls.{call_of, permitted}
 use Rattle.cloud_facts.proofs.Calls.Outcomes.{quiet, gives_up}
@@ -25,12 +25,22 @@ use Rattle.cloud_facts.proofs.Book.Names.{at_same, at_other}
 use Rattle.cloud_facts.proofs.Book.Places.{get_single, in_none}
 use Rattle.session_facts.specs.Machines.Walks.Caches.{KnowsCache}
 
--- what a step of a session's work is, between two states, with the cache that it leaves
-pub record IsStepOf (who : Caller) (book : Book) (order : List Entry) (s t : CloudState) (parts : Parts) (ask : Ask) (note : Audited → Audited) (work after : Work) (c : Cache) : Type 0 where
+-- a session's work and what a call makes of it, with the cache that it leaves
+pub record Passage : Type 0 where
+  pub who : Caller
+  pub work : Work
+  pub after : Work
+  pub cache : Cache
+
+abbrev pub passage : Caller → Work → Work → Cache → Passage
+passage who work after c = record { who = who; work = work; after = after; cache = c }
+
+-- what a step of a session's work is, between two states
+pub record IsStepOf (on : Footing) (t : CloudState) (parts : Parts) (ask : Ask) (note : Audited → Audited) (p : Passage) : Type 0 where
   pub reply : Reply
-  pub call : IsCall who ask reply s t
-  pub handles : Handles who s t ask reply (leases_of work) (leases_of after)
-  pub outcome : Outcome who book order s t parts (leases_of work) ask note (KnowsBoth c after)
+  pub call : IsCall p.who ask reply on.state t
+  pub handles : Handles (exchange p.who on.state t ask reply) (leases_of p.work) (leases_of p.after)
+  pub outcome : Outcome on t (actor parts p.who.session (leases_of p.work)) ask note (KnowsBoth p.cache p.after)
 
 -- a session's part stays
 pub part_again : (parts : Parts) (session : ℕ) (part : Part) → parts session ≡ part → at session part parts ≡ parts
@@ -43,10 +53,10 @@ part_again parts session part e = λ i n. same n (cases_eq n session) i
 -- ---- a close
 
 module _ (who : Caller) (before after : Seen) (book : Book) (order : List Entry) (s t : CloudState) (parts : Parts) (lease : Claim)
-    (setting : s.now ≤ t.now → Setting book order s t.now parts who.session (lease ∷ [])) (part_is : parts who.session ≡ Away) (c : Cache) (kept : KnowsCache (store_of book order s) c)
+    (setting : s.now ≤ t.now → Setting (footing book order s) t.now (actor parts who.session (lease ∷ []))) (part_is : parts who.session ≡ Away) (c : Cache) (kept : KnowsCache (store_of book order s) c)
     (e : before.state ≡ Some s) (f : after.state ≡ Some t) where
   released : (work : Work) (result : Result (Unit {0}) Trouble) → GivesBack lease who before after result → work ≡ Closed
-      → IsStepOf who book order s t parts (Release lease) (λ a. a) (Closing lease) work c
+      → IsStepOf (footing book order s) t parts (Release lease) (λ a. a) (passage who (Closing lease) work c)
   released work result gives closed =
       let call = call_of who (Release lease) gives.answer before after s t gives.made e f in
       record {
@@ -65,7 +75,7 @@ module _ (who : Caller) (before after : Seen) (book : Book) (order : List Entry)
             (subst (λ (w : Work). KnowsWork (store_of book order s) t.now c w Away) (sym closed) refl));
       }
 
-  pub closing_step : (work : Work) (turn : Turn Answer) → StepsClosing lease who before after work turn → IsStepOf who book order s t parts (Release lease) (λ a. a) (Closing lease) work c
+  pub closing_step : (work : Work) (turn : Turn Answer) → StepsClosing lease who before after work turn → IsStepOf (footing book order s) t parts (Release lease) (λ a. a) (passage who (Closing lease) work c)
   closing_step work (Ended answer.Closed) steps = released work (Ok tt) steps.0 steps.1
   closing_step work (Ended (answer.Trouble k)) steps = released work (Err k) steps.0 steps.1
   closing_step work More never = absurd never
@@ -100,7 +110,7 @@ renewed_lock who l m s t (inl p) = ap (λ (x : Claim). x.lock) p.1
 renewed_lock who l m s t (inr p) = ap (λ (x : Claim). x.lock) p.1
 
 module _ (who : Caller) (before after : Seen) (book : Book) (order : List Entry) (s t : CloudState) (parts : Parts) (home : Home)
-    (set : s.now ≤ t.now → Setting book order s t.now parts who.session (home.lease ∷ [])) (knows_at : s.now ≤ t.now → IsHome (store_of book order s) t.now home (parts who.session))
+    (set : s.now ≤ t.now → Setting (footing book order s) t.now (actor parts who.session (home.lease ∷ []))) (knows_at : s.now ≤ t.now → IsHome (store_of book order s) t.now home (parts who.session))
     (c : Cache) (kept : KnowsCache (store_of book order s) c) (e : before.state ≡ Some s) (f : after.state ≡ Some t) where
   abbrev st : Store
   st = store_of book order s
@@ -109,7 +119,7 @@ module _ (who : Caller) (before after : Seen) (book : Book) (order : List Entry)
     call : IsCall who (Renew home.lease 600) renews.answer s t
     call = call_of who (Renew home.lease 600) renews.answer before after s t renews.made e f
 
-    setting : Setting book order s t.now parts who.session (home.lease ∷ [])
+    setting : Setting (footing book order s) t.now (actor parts who.session (home.lease ∷ []))
     setting = set call.later
 
     knows : KnowsHome st t.now (opened_client home.client home.lease home.head home.attempt) (parts who.session)
@@ -148,24 +158,24 @@ module _ (who : Caller) (before after : Seen) (book : Book) (order : List Entry)
       counted = (knows_at call.later).counted;
     }
 
-    open_outcome : Outcome who book order s t parts (home.lease ∷ []) (Renew home.lease 600) (λ a. a) (λ su now p. IsHome su now new p)
+    open_outcome : Outcome (footing book order s) t (actor parts who.session (home.lease ∷ [])) (Renew home.lease 600) (λ a. a) (λ su now p. IsHome su now new p)
     open_outcome =
         quiet who book order s t parts (home.lease ∷ []) (Renew home.lease 600) (λ a. a) (λ su now p. IsHome su now new p) renews.answer call tt tt setting.cloud part homes
         (subst (λ h. IsHome st t.now h part) (sym renews.home) home_after)
 
-    hands : (work : Work) → ((x : Claim) → IsIn (leases_of work) x → x ≡ new.lease) → Handles who s t (Renew home.lease 600) renews.answer (home.lease ∷ []) (leases_of work)
+    hands : (work : Work) → ((x : Claim) → IsIn (leases_of work) x → x ≡ new.lease) → Handles (exchange who s t (Renew home.lease 600) renews.answer) (home.lease ∷ []) (leases_of work)
     hands work only = record { owns = (0, refl); guarded = tt; renewed = new.lease; renews = both; own = λ x is. inr (only x is) }
 
-    stays_open : (work : Work) → work ≡ Idle new → IsStepOf who book order s t parts (Renew home.lease 600) (λ a. a) (Renewing home) work c
-    stays_open work is = subst (λ w. IsStepOf who book order s t parts (Renew home.lease 600) (λ a. a) (Renewing home) w c) (sym is) (record {
+    stays_open : (work : Work) → work ≡ Idle new → IsStepOf (footing book order s) t parts (Renew home.lease 600) (λ a. a) (passage who (Renewing home) work c)
+    stays_open work is = subst (λ w. IsStepOf (footing book order s) t parts (Renew home.lease 600) (λ a. a) (passage who (Renewing home) w c)) (sym is) (record {
       reply = renews.answer;
       call = call;
       handles = hands (Idle new) (λ x there. sym (get_single new.lease there.0 x there.1));
       outcome = with_cache who book order s t parts (home.lease ∷ []) (Renew home.lease 600) (λ a. a) c (Idle new) kept open_outcome;
     })
 
-    breaks : (work : Work) → work ≡ Broken new.lease → IsStepOf who book order s t parts (Renew home.lease 600) (λ a. a) (Renewing home) work c
-    breaks work is = subst (λ w. IsStepOf who book order s t parts (Renew home.lease 600) (λ a. a) (Renewing home) w c) (sym is) (record {
+    breaks : (work : Work) → work ≡ Broken new.lease → IsStepOf (footing book order s) t parts (Renew home.lease 600) (λ a. a) (passage who (Renewing home) work c)
+    breaks work is = subst (λ w. IsStepOf (footing book order s) t parts (Renew home.lease 600) (λ a. a) (passage who (Renewing home) w c)) (sym is) (record {
       reply = renews.answer;
       call = call;
       handles = hands (Broken new.lease) (λ x there. sym (get_single new.lease there.0 x there.1));
@@ -173,11 +183,11 @@ module _ (who : Caller) (before after : Seen) (book : Book) (order : List Entry)
           (gives_up who book order s t parts (home.lease ∷ []) (Renew home.lease 600) (λ a. a) (λ su now p. IsHome su now new p) open_outcome);
     })
 
-    by_trouble : (k : Trouble) (work : Work) → work ≡ stopped_work k new → IsStepOf who book order s t parts (Renew home.lease 600) (λ a. a) (Renewing home) work c
+    by_trouble : (k : Trouble) (work : Work) → work ≡ stopped_work k new → IsStepOf (footing book order s) t parts (Renew home.lease 600) (λ a. a) (passage who (Renewing home) work c)
     by_trouble trouble.Memory work is = breaks work is
     by_trouble k work is = stays_open work is
 
-  pub renewing_step : (work : Work) (turn : Turn Answer) → StepsRenewing home who before after work turn → IsStepOf who book order s t parts (Renew home.lease 600) (λ a. a) (Renewing home) work c
+  pub renewing_step : (work : Work) (turn : Turn Answer) → StepsRenewing home who before after work turn → IsStepOf (footing book order s) t parts (Renew home.lease 600) (λ a. a) (passage who (Renewing home) work c)
   renewing_step work (Ended (answer.Renewed end)) (new, renews, is) = stays_open new (Ok end) renews work is
   renewing_step work (Ended (answer.Trouble k)) (new, renews, is) = by_trouble new (Err k) renews k work is
   renewing_step work More never = absurd never

@@ -8,7 +8,7 @@ use Rattle.client_work.specs.declared.answer.Answer.TheVariants as answer
 use Rattle.client_work.specs.declared.shown.Shown.{Shown}
 use Rattle.client_work.specs.declared.work.Work.{Work}
 use Rattle.client_work.specs.declared.work.Work.TheVariants.{Idle, Looking, Broken}
-use Rattle.cloud_facts.specs.Calls.Acting.{Setting}
+use Rattle.cloud_facts.specs.Calls.Acting.{footing, actor, Setting}
 use Rattle.cloud_facts.specs.Words.{Trouble, Entry, Answer as Reply, Turn, More, Ended, Stopped, CloudState, Caller, Seen, Goes, Stops, Book, Store, store_of, IsCall}
 use Rattle.cloud_facts.proofs.Calls.Calls.{call_of}
 use Rattle.cloud_trait.specs.Weather.{Makes}
@@ -20,7 +20,7 @@ use Rattle.session_facts.specs.Machines.Looks.Knows.{KnowsLook, KnowsLooking, Lo
 use Rattle.session_facts.proofs.Machines.Looks.Outcome.{look_goes}
 use Rattle.session_facts.specs.Sessions.Knows.{IsHome}
 use Rattle.session_facts.proofs.Sessions.Steps.Gets.{get_handles, get_out, broken_out}
-use Rattle.session_facts.proofs.Sessions.Steps.Leases.{IsStepOf}
+use Rattle.session_facts.proofs.Sessions.Steps.Leases.{passage, IsStepOf}
 use Rattle.session_facts.proofs.Sessions.Troubles.{stays_open}
 use Rattle.tree_walk.specs.Walk.{object_of}
 use Rattle.txn_buffer.specs.Noted.{Noted}
@@ -29,7 +29,7 @@ use Rattle.session_facts.specs.Machines.Walks.Knows.{MayStopWalk}
 use Rattle.tree_walk.proofs.Demands.{memory_or}
 
 module _ (who : Caller) (before after : Seen) (book : Book) (order : List Entry) (s t : CloudState) (parts : Parts) (home : Home) (l : Look) (buffer : List Noted)
-    (setting : s.now ≤ t.now → Setting book order s t.now parts who.session (home.lease ∷ [])) (knows : s.now ≤ t.now → IsHome (store_of book order s) t.now home (parts who.session))
+    (setting : s.now ≤ t.now → Setting (footing book order s) t.now (actor parts who.session (home.lease ∷ []))) (knows : s.now ≤ t.now → IsHome (store_of book order s) t.now home (parts who.session))
     (look : KnowsLook (store_of book order s) l) (c d : Cache) (kept : KnowsCache (store_of book order s) c) (e : before.state ≡ Some s) (f : after.state ≡ Some t) where
   abbrev st : Store
   st = store_of book order s
@@ -38,7 +38,7 @@ module _ (who : Caller) (before after : Seen) (book : Book) (order : List Entry)
   own = own_of home buffer
 
   abbrev Stepped : Work → Type 0
-  Stepped work = IsStepOf who book order s t parts (look_ask l) (λ a. a) (Looking home l) work d
+  Stepped work = IsStepOf (footing book order s) t parts (look_ask l) (λ a. a) (passage who (Looking home l) work d)
 
   module _ (reply : Reply) (made : Makes who (look_ask l) reply before after) where
     call : IsCall who (look_ask l) reply s t

@@ -5,7 +5,7 @@ use Rattle.client_work.specs.declared.answer.Answer.{Answer}
 use Rattle.client_work.specs.declared.answer.Answer.TheVariants as answer
 use Rattle.client_work.specs.declared.work.Work.{Work}
 use Rattle.client_work.specs.declared.work.Work.TheVariants.{Closed, Opening}
-use Rattle.cloud_facts.specs.Calls.Acting.{Setting, Outcome, Handles}
+use Rattle.cloud_facts.specs.Calls.Acting.{footing, exchange, actor, Setting, Outcome, Handles}
 use Rattle.cloud_facts.specs.Words.{Entry, Answer as Reply, Turn, More, Ended, Stopped, CloudState, Caller, Seen, Goes, Ends, Stops, Book, Store, store_of, IsCall}
 use Rattle.cloud_facts.proofs.Calls.Calls.{call_of}
 use Rattle.cloud_facts.proofs.Calls.Outcomes.{gives_up, weaker, fewer_handles}
@@ -19,7 +19,7 @@ use Rattle.recover_run.specs.declared.home.Home.{Home}
 use Rattle.recover_run.specs.Recovery.{Recovery, Step, recovery_ask, recovery_next, home_of, IsSound}
 use Rattle.session_facts.specs.Sessions.Knows.{leases_of, KnowsWork}
 use Rattle.session_facts.proofs.Sessions.Kept.{with_cache}
-use Rattle.session_facts.proofs.Sessions.Steps.Leases.{IsStepOf}
+use Rattle.session_facts.proofs.Sessions.Steps.Leases.{passage, IsStepOf}
 use Rattle.cloud_facts.proofs.Book.Places.{in_none}
 use Rattle.session_facts.specs.Machines.Walks.Caches.{KnowsCache}
 
@@ -48,26 +48,26 @@ next_leases (Ends m a) work is = end_leases (home_of m) ∙ sym (ap leases_of is
 next_leases (Stops m t) work is = sym (ap leases_of is)
 
 module _ (who : Caller) (before after : Seen) (book : Book) (order : List Entry) (s t : CloudState) (parts : Parts) (r : Recovery)
-    (setting : s.now ≤ t.now → Setting book order s t.now parts who.session (leases_of_recovery r)) (knows : s.now ≤ t.now → KnowsOpening (store_of book order s) t.now r (parts who.session))
+    (setting : s.now ≤ t.now → Setting (footing book order s) t.now (actor parts who.session (leases_of_recovery r))) (knows : s.now ≤ t.now → KnowsOpening (store_of book order s) t.now r (parts who.session))
     (sound : IsSound r) (c : Cache) (kept : KnowsCache (store_of book order s) c) (e : before.state ≡ Some s) (f : after.state ≡ Some t) where
   abbrev Stepped : Work → Type 0
-  Stepped work = IsStepOf who book order s t parts (recovery_ask r) (λ a. a) (Opening r) work c
+  Stepped work = IsStepOf (footing book order s) t parts (recovery_ask r) (λ a. a) (passage who (Opening r) work c)
 
   module _ (reply : Reply) (made : Makes who (recovery_ask r) reply before after) where
     call : IsCall who (recovery_ask r) reply s t
     call = call_of who (recovery_ask r) reply before after s t made e f
 
-    outcome : Outcome who book order s t parts (leases_of_recovery r) (recovery_ask r) (λ a. a) (KnowsNext (recovery_next r reply))
+    outcome : Outcome (footing book order s) t (actor parts who.session (leases_of_recovery r)) (recovery_ask r) (λ a. a) (KnowsNext (recovery_next r reply))
     outcome = opening_outcome who book order s t parts r (parts who.session) reply (setting call.later) refl (knows call.later) sound call made.fits
 
-    handles : Handles who s t (recovery_ask r) reply (leases_of_recovery r) (leases_of_next (recovery_next r reply))
+    handles : Handles (exchange who s t (recovery_ask r) reply) (leases_of_recovery r) (leases_of_next (recovery_next r reply))
     handles = opening_handles who book order s t r (parts who.session) reply (knows call.later)
 
     by_next : (step : Step) → recovery_next r reply ≡ step → (work : Work) → LeadsTo step work → Stepped work
     by_next step is work leads = record {
       reply = reply;
       call = call;
-      handles = subst (λ ls. Handles who s t (recovery_ask r) reply (leases_of_recovery r) ls) (ap leases_of_next is ∙ next_leases step work leads) handles;
+      handles = subst (λ ls. Handles (exchange who s t (recovery_ask r) reply) (leases_of_recovery r) ls) (ap leases_of_next is ∙ next_leases step work leads) handles;
       outcome = with_cache who book order s t parts (leases_of_recovery r) (recovery_ask r) (λ a. a) c work kept
           (weaker who book order s t parts (leases_of_recovery r) (recovery_ask r) (λ a. a) (KnowsNext (recovery_next r reply)) (λ st now part. KnowsWork st now c work part)
           (λ st now part k. next_known c step work leads st now part (subst (λ n. KnowsNext n st now part) is k)) outcome);

@@ -8,7 +8,7 @@ use Rattle.client_work.specs.declared.answer.Answer.{Answer}
 use Rattle.client_work.specs.declared.answer.Answer.TheVariants as answer
 use Rattle.client_work.specs.declared.work.Work.{Work}
 use Rattle.client_work.specs.declared.work.Work.TheVariants.{Idle, Paging as PagingOn, Broken}
-use Rattle.cloud_facts.specs.Calls.Acting.{Setting, Outcome, Handles, Aside}
+use Rattle.cloud_facts.specs.Calls.Acting.{footing, exchange, actor, Setting, Outcome, Handles, Aside}
 use Rattle.cloud_facts.specs.Words.{Trouble, Entry, Answer as Reply, Turn, More, Ended, Stopped, CloudState, Caller, Seen, Ask, Get, GetHeld, PutHeld, Send, Receive, Delete, Take, Renew, Release, Goes, Book, Store, store_of, IsCall}
 use Rattle.cloud_facts.proofs.Calls.Calls.{call_of}
 use Rattle.cloud_facts.proofs.Calls.OthersLemmas.{home_aside}
@@ -25,7 +25,7 @@ use Rattle.recover_run.specs.declared.home.Home.{Home}
 use Rattle.session_facts.specs.Sessions.Audited.{noted_at}
 use Rattle.session_facts.specs.Sessions.Knows.{leases_of, IsHome, KnowsWork}
 use Rattle.session_facts.proofs.Sessions.Kept.{KnowsBoth, with_cache}
-use Rattle.session_facts.proofs.Sessions.Steps.Leases.{IsStepOf}
+use Rattle.session_facts.proofs.Sessions.Steps.Leases.{passage, IsStepOf}
 use Rattle.cloud_facts.specs.Book.Growth.{Grows}
 use Rattle.session_facts.specs.Machines.Walks.Caches.{KnowsCache}
 use Rattle.session_facts.proofs.Machines.Openings.Counted.{counted_stay}
@@ -48,7 +48,7 @@ paging_noted home p (Renew l ticks) a = refl
 paging_noted home p (Release l) a = refl
 
 module _ (who : Caller) (before after : Seen) (book : Book) (order : List Entry) (s t : CloudState) (parts : Parts) (home : Home) (p : Paging)
-    (setting : s.now ≤ t.now → Setting book order s t.now parts who.session (leases_of (PagingOn home p)))
+    (setting : s.now ≤ t.now → Setting (footing book order s) t.now (actor parts who.session (leases_of (PagingOn home p))))
     (knows_home : IsHome (store_of book order s) s.now home (parts who.session)) (knows : KnowsPaging (store_of book order s) s.now p)
     (c : Cache) (kept : KnowsCache (store_of book order s) c) (e : before.state ≡ Some s) (g : after.state ≡ Some t) where
   abbrev st : Store
@@ -58,7 +58,7 @@ module _ (who : Caller) (before after : Seen) (book : Book) (order : List Entry)
   note = paging_note p (paging_ask p)
 
   abbrev Stepped : Work → Type 0
-  Stepped work = IsStepOf who book order s t parts (paging_ask p) note (PagingOn home p) work c
+  Stepped work = IsStepOf (footing book order s) t parts (paging_ask p) note (passage who (PagingOn home p) work c)
 
   module _ (reply : Reply) (made : Makes who (paging_ask p) reply before after) where
     call : IsCall who (paging_ask p) reply s t
@@ -67,10 +67,10 @@ module _ (who : Caller) (before after : Seen) (book : Book) (order : List Entry)
     abbrev Known : Store → ℕ → Part → Type 0
     Known = Aside st (parts who.session) (KnowsAfter p reply)
 
-    outcome : Outcome who book order s t parts (leases_of (PagingOn home p)) (paging_ask p) note Known
+    outcome : Outcome (footing book order s) t (actor parts who.session (leases_of (PagingOn home p))) (paging_ask p) note Known
     outcome = paging_outcome who s t book order parts (leases_of (PagingOn home p)) p reply (setting call.later) knows call
 
-    home_handles : Handles who s t (paging_ask p) reply (leases_of (PagingOn home p)) (home.lease ∷ [])
+    home_handles : Handles (exchange who s t (paging_ask p) reply) (leases_of (PagingOn home p)) (home.lease ∷ [])
     home_handles = paging_home_handles who s t book order parts (leases_of (PagingOn home p)) p reply (setting call.later) knows call home.lease home.client knows_home.at.lock_is
 
     -- the home is as it was
@@ -84,7 +84,7 @@ module _ (who : Caller) (before after : Seen) (book : Book) (order : List Entry)
 
     -- what is known by the whole outcome, at the clock that the call leaves
     known_as : (work : Work) → ((u : Store) (part : Part) → Grows st u → Known u t.now part → KnowsWork u t.now c work part)
-        → Outcome who book order s t parts (leases_of (PagingOn home p)) (paging_ask p) note (KnowsBoth c work)
+        → Outcome (footing book order s) t (actor parts who.session (leases_of (PagingOn home p))) (paging_ask p) note (KnowsBoth c work)
     known_as work less = with_cache who book order s t parts (leases_of (PagingOn home p)) (paging_ask p) note c work kept (record {
       book_after = outcome.book_after;
       order_after = outcome.order_after;

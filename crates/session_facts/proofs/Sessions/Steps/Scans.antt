@@ -7,7 +7,7 @@ use Rattle.client_work.specs.declared.listing.Listing.{Listing}
 use Rattle.client_work.specs.declared.shown.Shown.{Shown}
 use Rattle.client_work.specs.declared.work.Work.{Work}
 use Rattle.client_work.specs.declared.work.Work.TheVariants.{Idle, Scanning, Broken}
-use Rattle.cloud_facts.specs.Calls.Acting.{Setting}
+use Rattle.cloud_facts.specs.Calls.Acting.{footing, actor, Setting}
 use Rattle.cloud_facts.specs.Words.{Trouble, Entry, Answer as Reply, Turn, More, Ended, Stopped, CloudState, Caller, Seen, Stops, Book, Store, store_of, IsCall}
 use Rattle.cloud_facts.proofs.Calls.Calls.{call_of}
 use Rattle.cloud_trait.specs.Machine.{LeadsBy, Took}
@@ -21,7 +21,7 @@ use Rattle.session_facts.specs.Machines.Scans.Knows.{KnowsScan, KnowsScanning, I
 use Rattle.session_facts.proofs.Machines.Scans.Outcome.{scan_goes, scan_moves_on}
 use Rattle.session_facts.specs.Sessions.Knows.{IsHome}
 use Rattle.session_facts.proofs.Sessions.Steps.Gets.{get_handles, get_out, broken_out}
-use Rattle.session_facts.proofs.Sessions.Steps.Leases.{IsStepOf}
+use Rattle.session_facts.proofs.Sessions.Steps.Leases.{passage, IsStepOf}
 use Rattle.session_facts.proofs.Sessions.Troubles.{stays_open}
 use Rattle.txn_buffer.specs.Noted.{Noted}
 use Rattle.session_facts.specs.Machines.Walks.Caches.{KnowsCache}
@@ -29,13 +29,13 @@ use Rattle.session_facts.specs.Machines.Walks.Knows.{MayStopWalk}
 use Rattle.tree_walk.proofs.Demands.{memory_or}
 
 module _ (who : Caller) (before after : Seen) (book : Book) (order : List Entry) (s t : CloudState) (parts : Parts) (home : Home) (l : Listing) (buffer : List Noted)
-    (setting : s.now ≤ t.now → Setting book order s t.now parts who.session (home.lease ∷ [])) (knows : s.now ≤ t.now → IsHome (store_of book order s) t.now home (parts who.session))
+    (setting : s.now ≤ t.now → Setting (footing book order s) t.now (actor parts who.session (home.lease ∷ []))) (knows : s.now ≤ t.now → IsHome (store_of book order s) t.now home (parts who.session))
     (scan : KnowsScan (store_of book order s) l.scan) (c d : Cache) (kept : KnowsCache (store_of book order s) c) (e : before.state ≡ Some s) (f : after.state ≡ Some t) where
   abbrev st : Store
   st = store_of book order s
 
   abbrev Stepped : Work → Type 0
-  Stepped work = IsStepOf who book order s t parts (scan_ask l.scan) (λ a. a) (Scanning home l) work d
+  Stepped work = IsStepOf (footing book order s) t parts (scan_ask l.scan) (λ a. a) (passage who (Scanning home l) work d)
 
   module _ (reply : Reply) (made : Makes who (scan_ask l.scan) reply before after) where
     call : IsCall who (scan_ask l.scan) reply s t

@@ -5,7 +5,7 @@ use Rattle.client_work.specs.declared.answer.Answer.{Answer}
 use Rattle.client_work.specs.declared.answer.Answer.TheVariants as answer
 use Rattle.client_work.specs.declared.work.Work.{Work}
 use Rattle.client_work.specs.declared.work.Work.TheVariants.{Closed, Settling as SettlingAll}
-use Rattle.cloud_facts.specs.Calls.Acting.{Setting, Outcome}
+use Rattle.cloud_facts.specs.Calls.Acting.{footing, actor, Setting, Outcome}
 use Rattle.cloud_facts.specs.Words.{Entry, Answer as Reply, Turn, More, Ended, Stopped, CloudState, Caller, Seen, Ask, Get, GetHeld, PutHeld, Send, Receive, Delete, Take, Renew, Release, Goes, Book, store_of, IsCall}
 use Rattle.cloud_facts.proofs.Calls.Calls.{call_of}
 use Rattle.cloud_facts.proofs.Calls.Outcomes.{gives_up, weaker}
@@ -18,7 +18,7 @@ use Rattle.page_cache.specs.Cache.{Cache}
 use Rattle.session_facts.specs.Sessions.Audited.{noted_at}
 use Rattle.session_facts.specs.Sessions.Knows.{KnowsWork}
 use Rattle.session_facts.proofs.Sessions.Kept.{with_cache}
-use Rattle.session_facts.proofs.Sessions.Steps.Leases.{IsStepOf}
+use Rattle.session_facts.proofs.Sessions.Steps.Leases.{passage, IsStepOf}
 use Rattle.session_facts.specs.Machines.Settlings.Knows.{KnowsSettling, KnowsAfter, leases_of_settling, settling_note}
 use Rattle.session_facts.proofs.Machines.Settlings.Hands.{settling_handles, settling_drops}
 use Rattle.session_facts.proofs.Machines.Settlings.Outcome.{settling_outcome}
@@ -43,19 +43,19 @@ settling_noted m (Renew l ticks) a = refl
 settling_noted m (Release l) a = refl
 
 module _ (who : Caller) (before after : Seen) (book : Book) (order : List Entry) (s t : CloudState) (parts : Parts) (m : Settling)
-    (setting : s.now ≤ t.now → Setting book order s t.now parts who.session (leases_of_settling m)) (knows : KnowsSettling (store_of book order s) s.now m (parts who.session))
+    (setting : s.now ≤ t.now → Setting (footing book order s) t.now (actor parts who.session (leases_of_settling m))) (knows : KnowsSettling (store_of book order s) s.now m (parts who.session))
     (sound : IsSoundPart m.part) (c : Cache) (kept : KnowsCache (store_of book order s) c) (e : before.state ≡ Some s) (g : after.state ≡ Some t) where
   abbrev note : Audited → Audited
   note = settling_note m (settle_ask m)
 
   abbrev Stepped : Work → Type 0
-  Stepped work = IsStepOf who book order s t parts (settle_ask m) note (SettlingAll m) work c
+  Stepped work = IsStepOf (footing book order s) t parts (settle_ask m) note (passage who (SettlingAll m) work c)
 
   module _ (reply : Reply) (made : Makes who (settle_ask m) reply before after) where
     call : IsCall who (settle_ask m) reply s t
     call = call_of who (settle_ask m) reply before after s t made e g
 
-    outcome : Outcome who book order s t parts (leases_of_settling m) (settle_ask m) note (KnowsAfter m reply)
+    outcome : Outcome (footing book order s) t (actor parts who.session (leases_of_settling m)) (settle_ask m) note (KnowsAfter m reply)
     outcome = settling_outcome who s t book order parts m reply (setting call.later) knows sound call made.fits
 
     goes_on : (n : Settling) → SettleLeads m reply (Goes n) → Stepped (SettlingAll n)

@@ -6,7 +6,7 @@ use Rattle.client_work.specs.declared.answer.Answer.TheVariants as answer
 use Rattle.client_work.specs.declared.work.Work.{Work}
 use Rattle.client_work.specs.declared.work.Work.TheVariants.{Closed, Sweeping as SweepingOn}
 use Rattle.cloud_facts.specs.Words.{Entry, Answer as Reply, Turn, More, Ended, Stopped, CloudState, Caller, Seen, Goes, Book, store_of, IsCall}
-use Rattle.cloud_facts.specs.Calls.Acting.{Setting, Outcome}
+use Rattle.cloud_facts.specs.Calls.Acting.{footing, actor, Setting, Outcome}
 use Rattle.cloud_facts.specs.Homes.Homes.{Parts}
 use Rattle.cloud_facts.proofs.Calls.Calls.{call_of}
 use Rattle.cloud_facts.proofs.Calls.Outcomes.{gives_up, weaker}
@@ -18,25 +18,25 @@ use Rattle.session_facts.specs.Sessions.Knows.{KnowsWork}
 use Rattle.session_facts.specs.Machines.Sweeps.Knows.{KnowsSweep, KnowsNext, KnowsAfter, leases_of_sweep}
 use Rattle.session_facts.specs.Machines.Walks.Caches.{KnowsCache}
 use Rattle.session_facts.proofs.Sessions.Kept.{with_cache}
-use Rattle.session_facts.proofs.Sessions.Steps.Leases.{IsStepOf}
+use Rattle.session_facts.proofs.Sessions.Steps.Leases.{passage, IsStepOf}
 use Rattle.session_facts.proofs.Machines.Sweeps.Hands.{sweep_handles, sweep_drops}
 use Rattle.session_facts.proofs.Machines.Sweeps.Outcome.{sweep_outcome}
 
 module _ (who : Caller) (before after : Seen) (book : Book) (order : List Entry) (s t : CloudState) (parts : Parts) (m : Sweeping)
-    (setting : s.now ≤ t.now → Setting book order s t.now parts who.session (leases_of_sweep m)) (knows : KnowsSweep (store_of book order s) s.now m (parts who.session))
+    (setting : s.now ≤ t.now → Setting (footing book order s) t.now (actor parts who.session (leases_of_sweep m))) (knows : KnowsSweep (store_of book order s) s.now m (parts who.session))
     (c : Cache) (kept : KnowsCache (store_of book order s) c) (e : before.state ≡ Some s) (g : after.state ≡ Some t) where
   -- its calls add nothing to the audit
   abbrev note : Audited → Audited
   note = λ a. a
 
   abbrev Stepped : Work → Type 0
-  Stepped work = IsStepOf who book order s t parts (sweep_ask m) note (SweepingOn m) work c
+  Stepped work = IsStepOf (footing book order s) t parts (sweep_ask m) note (passage who (SweepingOn m) work c)
 
   module _ (reply : Reply) (made : Makes who (sweep_ask m) reply before after) where
     call : IsCall who (sweep_ask m) reply s t
     call = call_of who (sweep_ask m) reply before after s t made e g
 
-    outcome : Outcome who book order s t parts (leases_of_sweep m) (sweep_ask m) note (KnowsAfter m reply)
+    outcome : Outcome (footing book order s) t (actor parts who.session (leases_of_sweep m)) (sweep_ask m) note (KnowsAfter m reply)
     outcome = sweep_outcome who s t book order parts m reply (setting call.later) knows call
 
     goes_on : (n : Sweeping) → sweep_next m reply ≡ Goes n → Stepped (SweepingOn n)

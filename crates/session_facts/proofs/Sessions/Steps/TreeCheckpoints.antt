@@ -5,7 +5,7 @@ use Rattle.client_work.specs.declared.answer.Answer.{Answer}
 use Rattle.client_work.specs.declared.answer.Answer.TheVariants as answer
 use Rattle.client_work.specs.declared.work.Work.{Work}
 use Rattle.client_work.specs.declared.work.Work.TheVariants.{Idle, Folding as FoldingTree, Broken}
-use Rattle.cloud_facts.specs.Calls.Acting.{Setting, Outcome, Handles, Aside}
+use Rattle.cloud_facts.specs.Calls.Acting.{footing, exchange, actor, Setting, Outcome, Handles, Aside}
 use Rattle.cloud_facts.specs.Words.{Trouble, Entry, Answer as Reply, Turn, More, Ended, Stopped, CloudState, Caller, Seen, Claim, Ask, Get, GetHeld, PutHeld, Send, Receive, Delete, Take, Renew, Release, Goes, Book, Store, IsIn, store_of, IsCall}
 use Rattle.cloud_facts.proofs.Calls.Calls.{call_of}
 use Rattle.cloud_facts.proofs.Calls.OthersLemmas.{home_aside}
@@ -21,7 +21,7 @@ use Rattle.recover_run.specs.declared.home.Home.{Home}
 use Rattle.session_facts.specs.Sessions.Audited.{noted_at}
 use Rattle.session_facts.specs.Sessions.Knows.{leases_of, IsHome, KnowsWork}
 use Rattle.session_facts.proofs.Sessions.Kept.{KnowsBoth, with_cache}
-use Rattle.session_facts.proofs.Sessions.Steps.Leases.{IsStepOf}
+use Rattle.session_facts.proofs.Sessions.Steps.Leases.{passage, IsStepOf}
 use Rattle.cloud_facts.specs.Book.Growth.{Grows}
 use Rattle.cloud_facts.proofs.Book.Places.{in_behind}
 use Rattle.session_facts.specs.Machines.Walks.Caches.{KnowsCache}
@@ -49,7 +49,7 @@ making_noted home m (Renew l ticks) a = refl
 making_noted home m (Release l) a = refl
 
 module _ (who : Caller) (before after : Seen) (book : Book) (order : List Entry) (s t : CloudState) (parts : Parts) (home : Home) (m : Making)
-    (setting : s.now ≤ t.now → Setting book order s t.now parts who.session (leases_of (FoldingTree home m)))
+    (setting : s.now ≤ t.now → Setting (footing book order s) t.now (actor parts who.session (leases_of (FoldingTree home m))))
     (knows_home : IsHome (store_of book order s) s.now home (parts who.session)) (knows : KnowsMaking (store_of book order s) s.now m)
     (c : Cache) (kept : KnowsCache (store_of book order s) c) (e : before.state ≡ Some s) (g : after.state ≡ Some t) where
   abbrev st : Store
@@ -59,7 +59,7 @@ module _ (who : Caller) (before after : Seen) (book : Book) (order : List Entry)
   note = making_note m (making_ask m)
 
   abbrev Stepped : Work → Type 0
-  Stepped work = IsStepOf who book order s t parts (making_ask m) note (FoldingTree home m) work c
+  Stepped work = IsStepOf (footing book order s) t parts (making_ask m) note (passage who (FoldingTree home m) work c)
 
   module _ (reply : Reply) (made : Makes who (making_ask m) reply before after) where
     call : IsCall who (making_ask m) reply s t
@@ -72,10 +72,10 @@ module _ (who : Caller) (before after : Seen) (book : Book) (order : List Entry)
     within : (x : Claim) → IsIn (leases_of_making m) x → IsIn (leases_of (FoldingTree home m)) x
     within x is = in_behind (home.lease ∷ []) (leases_of_making m) x is
 
-    outcome : Outcome who book order s t parts (leases_of (FoldingTree home m)) (making_ask m) note Known
+    outcome : Outcome (footing book order s) t (actor parts who.session (leases_of (FoldingTree home m))) (making_ask m) note Known
     outcome = making_outcome who s t book order parts (leases_of (FoldingTree home m)) m reply (setting call.later) within knows call
 
-    home_handles : Handles who s t (making_ask m) reply (leases_of (FoldingTree home m)) (home.lease ∷ [])
+    home_handles : Handles (exchange who s t (making_ask m) reply) (leases_of (FoldingTree home m)) (home.lease ∷ [])
     home_handles = making_home_handles who s t book order parts (leases_of (FoldingTree home m)) m reply (setting call.later) knows call home.lease home.client knows_home.at.lock_is
 
     -- the home is as it was
@@ -89,7 +89,7 @@ module _ (who : Caller) (before after : Seen) (book : Book) (order : List Entry)
 
     -- what is known by the whole outcome, at the clock that the call leaves
     known_as : (work : Work) → ((u : Store) (part : Part) → Grows st u → Known u t.now part → KnowsWork u t.now c work part)
-        → Outcome who book order s t parts (leases_of (FoldingTree home m)) (making_ask m) note (KnowsBoth c work)
+        → Outcome (footing book order s) t (actor parts who.session (leases_of (FoldingTree home m))) (making_ask m) note (KnowsBoth c work)
     known_as work less = with_cache who book order s t parts (leases_of (FoldingTree home m)) (making_ask m) note c work kept (record {
       book_after = outcome.book_after;
       order_after = outcome.order_after;

@@ -6,7 +6,7 @@ use Rattle.client_work.specs.declared.answer.Answer.TheVariants as answer
 use Rattle.client_work.specs.declared.shown.Shown.{Shown}
 use Rattle.client_work.specs.declared.work.Work.{Work}
 use Rattle.client_work.specs.declared.work.Work.TheVariants.{Idle, Reading, Broken}
-use Rattle.cloud_facts.specs.Calls.Acting.{Setting}
+use Rattle.cloud_facts.specs.Calls.Acting.{footing, actor, Setting}
 use Rattle.cloud_facts.specs.Words.{Trouble, Entry, Answer as Reply, Turn, More, Ended, Stopped, CloudState, Caller, Seen, Goes, Stops, Book, Store, store_of, IsCall}
 use Rattle.cloud_facts.proofs.Calls.Calls.{call_of}
 use Rattle.cloud_trait.specs.Weather.{Makes}
@@ -17,7 +17,7 @@ use Rattle.page_cache.specs.Cache.{Cache}
 use Rattle.recover_run.specs.declared.home.Home.{Home}
 use Rattle.session_facts.specs.Sessions.Knows.{IsHome}
 use Rattle.session_facts.proofs.Sessions.Steps.Gets.{get_handles, get_out, broken_out}
-use Rattle.session_facts.proofs.Sessions.Steps.Leases.{IsStepOf}
+use Rattle.session_facts.proofs.Sessions.Steps.Leases.{passage, IsStepOf}
 use Rattle.session_facts.proofs.Sessions.Troubles.{stays_open}
 use Rattle.tree_walk.specs.Walk.{Walk, object_of, walk_ask, walk_next}
 use Rattle.session_facts.specs.Machines.Walks.Caches.{KnowsCache}
@@ -26,13 +26,13 @@ use Rattle.session_facts.proofs.Machines.Walks.Outcome.{walk_goes}
 use Rattle.tree_walk.proofs.Demands.{memory_or}
 
 module _ (who : Caller) (before after : Seen) (book : Book) (order : List Entry) (s t : CloudState) (parts : Parts) (home : Home) (w : Walk)
-    (setting : s.now ≤ t.now → Setting book order s t.now parts who.session (home.lease ∷ [])) (knows : s.now ≤ t.now → IsHome (store_of book order s) t.now home (parts who.session))
+    (setting : s.now ≤ t.now → Setting (footing book order s) t.now (actor parts who.session (home.lease ∷ []))) (knows : s.now ≤ t.now → IsHome (store_of book order s) t.now home (parts who.session))
     (walk : KnowsWalk (store_of book order s) w) (c d : Cache) (kept : KnowsCache (store_of book order s) c) (e : before.state ≡ Some s) (f : after.state ≡ Some t) where
   abbrev st : Store
   st = store_of book order s
 
   abbrev Stepped : Work → Type 0
-  Stepped work = IsStepOf who book order s t parts (walk_ask w) (λ a. a) (Reading home w) work d
+  Stepped work = IsStepOf (footing book order s) t parts (walk_ask w) (λ a. a) (passage who (Reading home w) work d)
 
   module _ (reply : Reply) (made : Makes who (walk_ask w) reply before after) where
     call : IsCall who (walk_ask w) reply s t

@@ -14,12 +14,12 @@ use Rattle.traced_cloud.specs.declared.form.Form.{Form}
 use Rattle.traced_cloud.specs.declared.note.Note.{Note}
 use Rattle.traced_cloud.specs.Replies.{told_of}
 use Rattle.traced_cloud.specs.Woven.{woven}
-use Rattle.call_trace.specs.Trace.{Writes, writes_all, after}
+use Rattle.call_trace.specs.Trace.{Writes, writes_all, after, traced}
 
 -- a text that is the weave was written
 pub writes_so : (form : Form) (replies others : List (List ℕ)) (notes : List Note) (status : Status) (written now_written : Written) (text bytes : List ℕ)
     (ended : Result (Unit {0}) OutputFault) → others ≡ replies → text ≡ woven form 1 others notes → bytes ≡ text
-    → WasWritten written now_written bytes ended → Writes form replies notes status (after status ended) written now_written
+    → WasWritten written now_written bytes ended → Writes (traced form replies notes) status (after status ended) written now_written
 writes_so form replies others notes status written now_written text bytes ended e f h w =
     writes_all ended refl
     (subst (λ z. WasWritten written now_written z ended)

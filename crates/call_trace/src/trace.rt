@@ -1,7 +1,8 @@
 //! A replay whose service calls are noted.
 
 ghost use Rattle.std.specs.Prelude.{◌≡◌, ◌∷◌, [], map, codes, string_bytes, IfOk};
-ghost use Rattle.call_trace.specs.Trace.{Traces, Writes};
+ghost use Rattle.call_trace.specs.Trace.{Traces, Writes, traced};
+ghost use Rattle.schedule_run.specs.Outside.{outside};
 
 use cloud_trait::cloud::Bench;
 use db_io::output::{OutputFault, write_text};
@@ -34,7 +35,7 @@ fn write_woven<O: Sink>(
     notes: &[Note],
     sink: &mut O,
 ) -> Status
-    ensures { Writes form replies.now notes.now status result (O.told sink.old) (O.told sink.new) }
+    ensures { Writes (traced form replies.now notes.now) status result (O.told sink.old) (O.told sink.new) }
 {
     match woven(alloc, form, replies.writes(), notes) {
         Ok(text) => match write_text(sink, text.as_slice()) {
@@ -54,8 +55,9 @@ pub(crate) fn trace_replay<I: Source, O: Sink, C: Bench>(
     sink: &mut O,
     cloud: &mut NotingCloud<C>,
 ) -> Status
-    ensures { Traces form result (I.told source.old) (I.told source.new) (O.told sink.old) (O.told sink.new)
-        cloud.new.trace (C.seen cloud.old.cloud) (C.seen cloud.new.cloud) }
+    ensures { Traces form cloud.new.trace result
+        (outside (I.told source.old) (O.told sink.old) (C.seen cloud.old.cloud))
+        (outside (I.told source.new) (O.told sink.new) (C.seen cloud.new.cloud)) }
 {
     let Ok(words) = replay_word(alloc) else {
         return Status::Memory;

@@ -124,6 +124,10 @@ impl Bench for Silent {
         Ok(false)
     }
 
+    fn versions(&mut self, _name: ObjName) -> Result<u64, CloudFault> {
+        Ok(0)
+    }
+
     fn backlog(&mut self, _queue: QueueName) -> Result<u64, CloudFault> {
         Ok(0)
     }
@@ -275,4 +279,5 @@ fn is_down(rt: HostRuntime) {
     assert!(rt; is_later(&mut cloud) && is_not_taken(&mut cloud, &names));
     assert!(rt; is_not_sent(&mut cloud, &names) && is_not_counted(&mut cloud, &names));
     assert!(rt; cloud.peek(names.object).is_err() && cloud.has(names.object, b"a").is_err());
+    assert!(rt; cloud.versions(names.object).is_err());
 }

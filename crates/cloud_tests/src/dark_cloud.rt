@@ -158,6 +158,14 @@ impl Bench for DarkCloud {
         }
     }
 
+    fn versions(&mut self, name: ObjName) -> Result<u64, CloudFault> {
+        self.sight.look()?;
+        match self.cloud.versions(name) {
+            Ok(count) => Ok(count),
+            Err(_) => Err(CloudFault::Memory),
+        }
+    }
+
     fn backlog(&mut self, queue: QueueName) -> Result<u64, CloudFault> {
         self.sight.look()?;
         match self.cloud.backlog(queue) {

@@ -53,13 +53,16 @@ abbrev pub has_bytes : Option (List ℕ) → List ℕ → Bool
 has_bytes (Some newest) bytes = bytes_eq newest bytes
 has_bytes None bytes = false
 
--- a look at an object gave its newest version, a look whether it has these bytes told that by it, and a look at a queue gave
--- the number of its messages that are not deleted
+-- a look at an object gave its newest version, a look whether it has these bytes told that by it, a look at its versions gave how many
+-- landed, and a look at a queue gave the number of its messages that are not deleted
 abbrev pub TellsNewest : Result (Option (List ℕ)) CloudFault → Seen → ObjName → Type 0
 TellsNewest result seen name = WhenTold seen (λ s. IfOk result (λ v. v ≡ newest s name))
 
 abbrev pub TellsHaving : Result Bool CloudFault → Seen → ObjName → List ℕ → Type 0
 TellsHaving result seen name bytes = WhenTold seen (λ s. IfOk result (λ is. is ≡ has_bytes (newest s name) bytes))
+
+abbrev pub TellsCount : Result ℕ CloudFault → Seen → ObjName → Type 0
+TellsCount result seen name = WhenTold seen (λ s. IfOk result (λ n. n ≡ length (s.versions name)))
 
 abbrev pub TellsBacklog : Result ℕ CloudFault → Seen → QueueName → Type 0
 TellsBacklog result seen queue = WhenTold seen (λ s. IfOk result (λ n. n ≡ length (unmarked (s.messages queue))))

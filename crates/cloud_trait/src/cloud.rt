@@ -6,7 +6,7 @@ ghost use Rattle.cloud_trait.specs.State.{CloudState};
 ghost use Rattle.cloud_trait.specs.Seen.{Seen};
 ghost use Rattle.cloud_trait.specs.Weather.{Makes};
 ghost use Rattle.cloud_trait.specs.Made.{MakesGet, MakesGetHeld, MakesListHeld, MakesRemoveHeld, MakesSend, MakesReceive, MakesDelete, MakesTake, MakesRenew, SetsLease, MakesRelease};
-ghost use Rattle.cloud_trait.specs.Bench.{Looks, IsNoCall, IsShown, IsShownToHave, SetsWish, HasWaited, TellsNewest, TellsHaving, TellsBacklog};
+ghost use Rattle.cloud_trait.specs.Bench.{Looks, IsNoCall, IsShown, IsShownToHave, SetsWish, HasWaited, TellsNewest, TellsHaving, TellsCount, TellsBacklog};
 
 use crate::fault::{CloudFault, HeldFault};
 use crate::grant::Grant;
@@ -110,6 +110,11 @@ pub trait Bench: Cloud {
         ensures looks { Looks result (Self.seen self.old) (Self.seen self.new) }
         ensures newest { TellsHaving result (Self.seen self.old) name bytes.now }
         ensures shown { IfOk result (IsShownToHave (Self.seen self.old) name bytes.now) };
+
+    /// Counts the versions of an object that landed, with bytes or without. A cloud that does not know it fails.
+    fn versions(&mut self, name: ObjName) -> Result<u64, CloudFault>
+        ensures looks { Looks result (Self.seen self.old) (Self.seen self.new) }
+        ensures count { TellsCount result (Self.seen self.old) name };
 
     /// Counts the messages of a queue that are not deleted.
     fn backlog(&mut self, queue: QueueName) -> Result<u64, CloudFault>

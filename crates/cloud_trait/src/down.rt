@@ -190,6 +190,10 @@ impl Bench for DownCloud {
         Err(self.look())
     }
 
+    fn versions(&mut self, _name: ObjName) -> Result<u64, CloudFault> {
+        Err(self.look())
+    }
+
     fn backlog(&mut self, _queue: QueueName) -> Result<u64, CloudFault> {
         Err(self.look())
     }

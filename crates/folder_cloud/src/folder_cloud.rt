@@ -223,6 +223,11 @@ impl<R: Files<File = File> + AllocGlobal + Drop, K: Ticks + Drop> Bench for Fold
         }
     }
 
+    // A folder keeps the newest version alone.
+    fn versions(&mut self, _name: ObjName) -> Result<u64, CloudFault> {
+        Err(self.fail_look(FolderFault::Failed))
+    }
+
     fn backlog(&mut self, queue: QueueName) -> Result<u64, CloudFault> {
         match self.folder.backlog(&queue) {
             Ok(count) => Ok(count),

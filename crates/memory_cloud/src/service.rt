@@ -5,7 +5,7 @@ ghost use Rattle.cloud_trait.specs.Ask.{Get, GetHeld, PutHeld, ListHeld, RemoveH
 ghost use Rattle.cloud_trait.specs.State.{CloudState};
 ghost use Rattle.cloud_trait.specs.Weather.{Makes};
 ghost use Rattle.cloud_trait.specs.Made.{MakesGet, MakesGetHeld, MakesListHeld, MakesRemoveHeld, MakesSend, MakesReceive, MakesDelete, MakesTake, MakesRenew, SetsLease, MakesRelease};
-ghost use Rattle.cloud_trait.specs.Bench.{Looks, IsNoCall, IsShown, IsShownToHave, SetsWish, HasWaited, TellsNewest, TellsHaving, TellsBacklog};
+ghost use Rattle.cloud_trait.specs.Bench.{Looks, IsNoCall, IsShown, IsShownToHave, SetsWish, HasWaited, TellsNewest, TellsHaving, TellsCount, TellsBacklog};
 ghost use Rattle.cloud_trait.specs.declared.fault.CloudFault.{CloudFault};
 ghost use Rattle.memory_cloud.specs.Memory.{state_of, is_planted, told_state, seen_of, next_mood, CountsCall, MakesNoCall, Obeys, begun, waited};
 ghost use Rattle.memory_cloud.specs.Outcome.{lease_in};
@@ -198,6 +198,16 @@ impl Bench for MemoryCloud {
     {
         let versions = objects::versions(&self.store.objects, &name);
         Ok(copies::newest_has(versions, bytes))
+    }
+
+    fn versions(&mut self, name: ObjName) -> Result<u64, CloudFault>
+        ensures looks { Looks result (seen_of self.old) (seen_of self.new) }
+        ensures count { TellsCount result (seen_of self.old) name }
+        ensures no_memory { (e : CloudFault) → result ≢ Err e }
+        ensures call { MakesNoCall self.old self.new }
+        ensures planted { is_planted self.new ≡ is_planted self.old }
+    {
+        Ok(objects::versions(&self.store.objects, &name).len() as u64)
     }
 
     fn backlog(&mut self, queue: QueueName) -> Result<u64, CloudFault>

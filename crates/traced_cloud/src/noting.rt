@@ -6,7 +6,7 @@ ghost use Rattle.cloud_trait.specs.Answers.{got_answer, held_got, done_answer, h
 ghost use Rattle.cloud_trait.specs.Ask.{Get, GetHeld, PutHeld, ListHeld, RemoveHeld, Send, Receive, Delete, Take, Renew, Release};
 ghost use Rattle.cloud_trait.specs.Weather.{Makes};
 ghost use Rattle.cloud_trait.specs.Made.{MakesGet, MakesGetHeld, MakesListHeld, MakesRemoveHeld, MakesSend, MakesReceive, MakesDelete, MakesTake, MakesRenew, SetsLease, MakesRelease};
-ghost use Rattle.cloud_trait.specs.Bench.{Looks, IsNoCall, IsShown, IsShownToHave, SetsWish, HasWaited, TellsNewest, TellsHaving, TellsBacklog};
+ghost use Rattle.cloud_trait.specs.Bench.{Looks, IsNoCall, IsShown, IsShownToHave, SetsWish, HasWaited, TellsNewest, TellsHaving, TellsCount, TellsBacklog};
 ghost use Rattle.traced_cloud.specs.Noted.{IsNoted};
 
 use crate::note::Note;
@@ -306,6 +306,14 @@ impl<C: Bench> Bench for NotingCloud<C> {
         ensures noted { self.new.trace ≡ self.old.trace }
     {
         self.cloud.has(name, bytes)
+    }
+
+    fn versions(&mut self, name: ObjName) -> Result<u64, CloudFault>
+        ensures looks { Looks result (C.seen self.old.cloud) (C.seen self.new.cloud) }
+        ensures count { TellsCount result (C.seen self.old.cloud) name }
+        ensures noted { self.new.trace ≡ self.old.trace }
+    {
+        self.cloud.versions(name)
     }
 
     fn backlog(&mut self, queue: QueueName) -> Result<u64, CloudFault>

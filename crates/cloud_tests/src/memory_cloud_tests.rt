@@ -162,6 +162,7 @@ fn are_checked<C: Bench>(cloud: &mut C, names: &Names, tree: &Lease, page: &Leas
 fn is_absent<C: Bench>(cloud: &mut C, names: &Names) -> bool {
     matches!(cloud.peek(names.object), Ok(None))
         && cloud.has(names.object, b"a").ok() == Some(false)
+        && cloud.versions(names.object).ok() == Some(0)
 }
 
 // Whether a lock is taken for the second time, until 7.

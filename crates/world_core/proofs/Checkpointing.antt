@@ -28,8 +28,7 @@ use Rattle.session_facts.proofs.Sessions.Lists.{session_there}
 use Rattle.session_notes.specs.declared.notebook.Notebook.{Notebook}
 use Rattle.session_notes.specs.Notebook.{ChangesBook, GoesOnBy, GoesOnEnded, LedgerTakes}
 use Rattle.world_core.specs.World.{World}
-use Rattle.world_core.specs.declared.put.Put.{Put}
-use Rattle.world_core.specs.Put.{put_of, put_of_hand}
+use Rattle.world_core.specs.Put.{Put, put_of, put_of_hand}
 use Rattle.world_core.specs.Sessions.{Changes, HasPut, IsAtWork}
 use Rattle.world_core.specs.Stands.{Grows}
 use Rattle.world_core.specs.Handled.{BeginsCheckpoint, ComesTo, IsOpen, FallsShort, MakesOne, NotesCall, NotesEnd, NotesStep, SetsWish, StepsLooked, Works, no_checkpoint, checkpoint_more, as_one, checkpoint_of, done_by, is_done, note_of_hand, gone_through}

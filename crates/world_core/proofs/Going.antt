@@ -1,5 +1,5 @@
 -- One more step of a world.
-use Rattle.std.proofs.Common.{◌≡◌, ◌<◌, ℕ, List, length, Option, Some, None, Result, Ok, sym, ap, subst, ◌∙◌, ◌⊎◌, inl, inr, Bool, true}
+use Rattle.std.proofs.Common.{◌≡◌, ◌≢◌, ◌<◌, ℕ, refl, List, length, Option, Some, None, Result, Ok, sym, ap, subst, ◌∙◌, ◌⊎◌, inl, inr, Bool, true}
 use Rattle.std.specs.Prelude.{slice_get, slice_set, unwrap_or, is_some}
 use Rattle.std.specs.Option.{option_map}
 use Rattle.std.proofs.lemmas.List.{get_or-set_same, length-set}
@@ -15,9 +15,8 @@ use Rattle.client_work.specs.declared.listing.Listing.{Listing}
 use Rattle.client_work.specs.declared.shown.Shown.{Shown}
 use Rattle.client_work.specs.Session.{Acting, closed_session, Follows, StepsAt, ask_of_work, calls_left, acting_of}
 use Rattle.client_work.proofs.End.{session_less}
-use Rattle.world_core.specs.declared.put.Put.{Put}
 use Rattle.world_core.specs.World.{World}
-use Rattle.world_core.specs.Put.{put_of}
+use Rattle.world_core.specs.Put.{Put, put_of}
 use Rattle.history.specs.Audited.{Audited}
 use Rattle.db_base.specs.declared.wish.Wish.TheVariants.{Plain}
 use Rattle.client_work.specs.declared.answer.Answer.{Answer}
@@ -118,8 +117,9 @@ noted_of other number sessions a b name old new same e f noted =
     noted ∙ ap (λ (z : Acting). noted_put name z.work old) (same_session sessions number a b there f)
 
 -- a world that is blind was so, or a look of this step failed
-pub blinds : (blind : Bool) (before after : Option Bool) (first last : Result (Option Bool) WorldFault) (P Q : Type 0) → first ≡ Ok before → last ≡ Ok after
-    → (first ≡ Ok None → P) → (last ≡ Ok None → Q) → (blind ≡ true) ⊎ ((before ≡ None) ⊎ (after ≡ None)) → (blind ≡ true) ⊎ (P ⊎ Q)
-blinds blind before after first last P Q e f p q (inl was) = inl was
-blinds blind before after first last P Q e f p q (inr (inl none)) = inr (inl (p (e ∙ ap Ok none)))
-blinds blind before after first last P Q e f p q (inr (inr none)) = inr (inr (q (f ∙ ap Ok none)))
+pub blinds : (blind : Bool) (before after : Option Bool) (last : Result (Option Bool) WorldFault) (P Q : Type 0) → last ≡ Ok after
+    → (before ≡ None → P) → (last ≡ Ok None → before ≢ None → Q) → (blind ≡ true) ⊎ ((before ≡ None) ⊎ (after ≡ None)) → (blind ≡ true) ⊎ (P ⊎ Q)
+blinds blind before after last P Q e p q (inl was) = inl was
+blinds blind before after last P Q e p q (inr (inl none)) = inr (inl (p none))
+blinds blind None after last P Q e p q (inr (inr none)) = inr (inl (p refl))
+blinds blind (Some was) after last P Q e p q (inr (inr none)) = inr (inr (q (e ∙ ap Ok none) (λ f. cc)))

@@ -11,8 +11,7 @@ use Rattle.history.specs.Audited.{Audited}
 use Rattle.world_audit.specs.declared.mark.Mark.{Mark}
 use Rattle.cloud_facts.specs.Calls.Looks.{Newest, has_landed}
 use Rattle.session_facts.specs.Sessions.Audited.{noted_head, noted_in_hand, noted_by, audited}
-use Rattle.world_core.specs.declared.put.Put.{Put}
-use Rattle.world_core.specs.Put.{Look, is_blind, SeesNewest, put_of_hand, put_of, is_newest, noted_put, back_at, kept_of}
+use Rattle.world_core.specs.Put.{Put, Look, is_blind, SeesNewest, put_of_hand, put_of, is_newest, noted_put, back_at, kept_of}
 
 -- ---- by the put in hand
 

@@ -46,12 +46,11 @@ use Rattle.world_core.specs.declared.asked.Asked.TheVariants.{Session, Wait, Rep
 use Rattle.world_core.specs.declared.asked.Noting.{Noting}
 use Rattle.world_core.specs.declared.asked.Request.{Request}
 use Rattle.world_core.specs.declared.asked.Request.TheVariants.{Begin, Note, Abort, Policy, Work as WorksDue, Step, Run, Crash}
-use Rattle.world_core.specs.declared.put.Put.{Put}
 use Rattle.world_core.specs.declared.world.WorldFault.{WorldFault}
 use Rattle.session_facts.specs.Lines.Errands as errands
 use Rattle.world_core.specs.Handled.{Answers, BeginsOp, BreaksOff, ComesTo, Crashes, Does, DropsChanges, FallsShort, Handled, MakesStep, NotesChange, Runs, RunsShort, Settles, SettlesOn, StepsLooked, StopsShort, Went, further, start, CheckpointFails, Checkpoints, FailsAt, IsUndone, KnowsNoDue, Policies, Works, WorksThrough, checkpoint_more, is_done, no_checkpoint, gone_through}
 use Rattle.world_core.specs.LeftShort.{AskedShort, IsBroken, IsLeftShort, LeavesShort, ServesShort, SettlerShort}
-use Rattle.world_core.specs.Put.{put_of, put_of_ask}
+use Rattle.world_core.specs.Put.{Put, put_of, put_of_ask}
 use Rattle.world_core.specs.Replying.{RepliesBegun, RepliesTurn, done_reply}
 use Rattle.world_core.specs.Sessions.{Changes, NotesIn, AbortsIn}
 use Rattle.world_core.specs.World.{World}

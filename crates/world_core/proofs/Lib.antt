@@ -8,6 +8,7 @@ pub mod ReplyLemmas
 pub mod Texts
 pub mod Stopping
 pub mod Landing
+pub mod Sights
 pub mod GrowthLemmas
 pub mod QuotaLemmas
 pub mod Marks

@@ -54,7 +54,7 @@ use Rattle.world_core.specs.declared.world.WorldFault.{WorldFault}
 use Rattle.world_core.specs.declared.world.WorldFault.TheVariants as fault
 use Rattle.world_core.specs.Asked.{Asks}
 use Rattle.world_core.specs.Replying.{declined, done_reply, RepliesTo, RepliesBegun, RepliesFor, RepliesTurn}
-use Rattle.world_core.specs.declared.put.Put.{Put}
+use Rattle.world_core.specs.Put.{Put}
 use Rattle.world_core.specs.Sessions.{Changes, HasPut, IsAtWork, IsNotWorking, NotesIn, AbortsIn}
 use Rattle.world_core.specs.Span.{Span, span_of}
 

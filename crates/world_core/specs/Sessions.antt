@@ -7,10 +7,9 @@ use Rattle.client_work.specs.Session.{Acting, rule_of, MayIndex, NoteRefused, Pu
 use Rattle.cloud_trait.specs.Ask.{Ask}
 use Rattle.db_base.specs.declared.names.ObjName.{ObjName}
 use Rattle.history.specs.Audited.{Audited}
-use Rattle.world_core.specs.Put.{put_of, noted_put}
+use Rattle.world_core.specs.Put.{Put, put_of, noted_put}
 use Rattle.world_core.specs.declared.asked.Noting.{Noting}
 use Rattle.world_core.specs.declared.asked.Noting.TheVariants.{Single, Indexed}
-use Rattle.world_core.specs.declared.put.Put.{Put}
 
 -- the session of a number does this, and the others stay
 pub record Changes (number : ℕ) (Does : Acting → Acting → Type 0) (old new : List Acting) : Type 0 where
@@ -64,6 +63,12 @@ pub record HasPut (number : ℕ) (sessions : List Acting) (put : Option Put) : T
   pub session : Acting
   pub there : slice_get sessions number ≡ Some session
   pub put_is : put_of session.work ≡ put
+
+-- it has a put of this object in hand
+pub record Puts (number : ℕ) (sessions : List Acting) (name : ObjName) : Type 0 where
+  pub put : Put
+  pub has : HasPut number sessions (Some put)
+  pub named : put.name ≡ name
 
 -- the audit has what a put of the object by the session of a number commits or applies
 pub record NotesPut (number : ℕ) (sessions : List Acting) (name : ObjName) (old new : Audited) : Type 0 where

@@ -1,13 +1,16 @@
 //! The steps of sessions: that a quota covers them, and what is seen and noted of those that are made.
 
 ghost use Rattle.std.specs.Prelude.{◌≡◌, ◌⊎◌, false, true, None, Some, IfOk, OnErr, OnOk};
-ghost use Rattle.world_core.specs.Put.{is_blind};
+ghost use Rattle.cloud_trait.specs.State.{CloudState};
+ghost use Rattle.cloud_trait.specs.Weather.{Rose};
+ghost use Rattle.world_audit.specs.Look.{Looked};
+ghost use Rattle.world_core.specs.Put.{Put, SeesBefore, is_blind};
 ghost use Rattle.world_core.specs.Stands.{Grows};
 ghost use Rattle.world_core.specs.Span.{span_by};
 
 use crate::about::{About, about_in_hand};
 use crate::noting::{keep_landed, note_put};
-use crate::put::{Put, is_newest, put_in_hand};
+use crate::put::{Sight, look_before, look_behind, object_in_hand};
 use crate::quota::Quota;
 use crate::replying::is_done;
 use crate::world::{World, WorldFault};
@@ -18,6 +21,7 @@ use cloud_trait::cloud::Bench;
 use cloud_trait::turn::Turn;
 use cloud_trait::who::Who;
 use db_base::ids::SessionNo;
+use db_base::names::ObjName;
 use db_base::refusal::Refused;
 use db_base::wish::Wish;
 use session_notes::note_of_call::note_of_call;
@@ -28,7 +32,7 @@ impl<S: SessionCalls> World<S> {
     ghost use Rattle.world_core.specs.About.{HasNote};
     ghost use Rattle.world_core.specs.Handled.{FallsShort, KeepsNotes, NotesCall, NotesEnd, RunsShort, StepsLooked};
     ghost use Rattle.world_core.specs.Quota.{SpendsQuota};
-    ghost use Rattle.world_core.specs.Sessions.{Changes, HasPut, IsAtWork};
+    ghost use Rattle.world_core.specs.Sessions.{Changes, HasPut, IsAtWork, Puts};
 
     /// Makes a step of a session that is at work under a wish, and breaks the session off where memory runs out beside it.
     pub(crate) fn step_under<C: Bench>(
@@ -108,6 +112,7 @@ impl<S: SessionCalls> World<S> {
 
     /// Makes a step between two looks, where it is a put.
     #[inline(never)]
+    #[tactic(auto, using(crate::proofs::Sights::puts_from, crate::proofs::Sights::puts_none))]
     fn step_looking<C: Bench>(
         &mut self,
         alloc: Global,
@@ -122,10 +127,9 @@ impl<S: SessionCalls> World<S> {
             (span_by C.seen cloud.old cloud.new self.old self.new)) }
         ensures grows { Grows who.event (C.seen cloud.old) (C.seen cloud.new) }
     {
-        match put_in_hand(alloc, self.session(who.session)) {
-            Ok(Some(put)) => self.step_put(alloc, cloud, who, wish, &put),
-            Ok(None) => self.step_other(alloc, cloud, who, wish),
-            Err(_) => Err(WorldFault::Memory),
+        match object_in_hand(self.session(who.session)) {
+            Some(name) => self.step_put(alloc, cloud, who, wish, &name),
+            None => self.step_other(alloc, cloud, who, wish),
         }
     }
 
@@ -213,6 +217,18 @@ impl<S: SessionCalls> World<S> {
         self.notes.take(number, note)
     }
 
+    /// Looks at the object of the put that the session has in hand.
+    fn look_before<C: Bench>(&self, cloud: &mut C, number: SessionNo) -> Result<Sight, WorldFault>
+        requires { (put : Put) × HasPut number self.now.sessions (Some put) }
+        ensures looked { Looked (C.seen cloud.old) (C.seen cloud.new) }
+        ensures dark { IfOk result (λ sight. sight.newest ≡ None
+            → Rose (C.seen cloud.old).counts.dark (C.seen cloud.new).counts.dark) }
+        ensures sees { (s : CloudState) → (C.seen cloud.old).state ≡ Some s → (put : Put)
+            → HasPut number self.now.sessions (Some put) → IfOk result (SeesBefore s put) }
+    {
+        look_before(cloud, self.session(number))
+    }
+
     /// Makes a step that is a put, and notes what it commits or applies where it is seen to land.
     fn step_put<C: Bench>(
         &mut self,
@@ -220,25 +236,19 @@ impl<S: SessionCalls> World<S> {
         cloud: &mut C,
         who: Who,
         wish: Wish,
-        put: &Put,
+        name: &ObjName,
     ) -> Result<Turn<Answer>, WorldFault>
         requires works { IsAtWork who.session self.old.sessions }
-        requires puts { HasPut who.session self.old.sessions (Some put.now) }
+        requires puts { Puts who.session self.old.sessions name.now }
         ensures looked { IfOk result (λ turn. StepsLooked who wish
             (span_by C.seen cloud.old cloud.new self.old self.new) turn) }
         ensures short { OnErr result (FallsShort who wish
             (span_by C.seen cloud.old cloud.new self.old self.new)) }
         ensures grows { Grows who.event (C.seen cloud.old) (C.seen cloud.new) }
     {
-        let before = is_newest(cloud, put)?;
+        let before = self.look_before(cloud, who.session)?;
         let mark = self.audit.mark();
-        match note_put(
-            alloc,
-            &mut self.audit,
-            &self.sessions,
-            who.session,
-            put.name,
-        ) {
+        match note_put(alloc, &mut self.audit, &self.sessions, who.session, *name) {
             Ok(()) => {}
             Err(_) => return Err(WorldFault::Memory),
         }
@@ -248,9 +258,9 @@ impl<S: SessionCalls> World<S> {
             Ok(()) => {}
             Err(_) => return Err(WorldFault::Memory),
         }
-        let after = is_newest(cloud, put)?;
-        keep_landed(&mut self.audit, mark, before, after);
-        self.blind = is_blinded(self.blind, before, after);
+        let after = look_behind(cloud, *name, &before)?;
+        keep_landed(&mut self.audit, mark, before.newest, after);
+        self.blind = is_blinded(self.blind, before.newest, after);
         Ok(turn)
     }
 

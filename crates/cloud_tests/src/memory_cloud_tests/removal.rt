@@ -110,6 +110,7 @@ fn is_absent<C: Bench>(cloud: &mut C, name: &ObjName, bytes: &[u8]) -> bool {
 // Whether page 7 is gone: only a get of its first version brings its bytes.
 fn is_gone<C: Shown>(cloud: &mut C, names: &Names, page: &ObjName, lease: &Lease) -> bool {
     is_absent(cloud, page, b"d")
+        && cloud.versions(*page).ok() == Some(2)
         && cloud.has_version(*page, 1)
         && !cloud.has_version(*page, 2)
         && gets(cloud, names, *page, Wish::Plain, None)
@@ -123,6 +124,7 @@ fn is_gone<C: Shown>(cloud: &mut C, names: &Names, page: &ObjName, lease: &Lease
 // Whether page 7 is there again, with the bytes of its third version.
 fn is_back<C: Shown>(cloud: &mut C, names: &Names, page: &ObjName, lease: &Lease) -> bool {
     cloud.has(*page, b"e").ok() == Some(true)
+        && cloud.versions(*page).ok() == Some(3)
         && cloud.has_version(*page, 3)
         && gets(cloud, names, *page, Wish::Plain, Some(b"e"))
         && gets(cloud, names, *page, Wish::Old(2), None)

@@ -3,7 +3,7 @@ use Rattle.std.proofs.Common.{◌≡◌, ◌+◌, ℕ, List, [], ◌∷◌, ◌+
 use Rattle.client_work.specs.Session.{StepsSession}
 use Rattle.client_work.specs.declared.answer.Answer.TheVariants as answer
 use Rattle.client_work.specs.declared.work.Work.{Work}
-use Rattle.cloud_facts.specs.Words.{CommitAnswer, Entry, Ended, CloudState, Caller, Seen}
+use Rattle.cloud_facts.specs.Words.{at, CommitAnswer, Entry, Ended, CloudState, Caller, Seen}
 use Rattle.db_base.specs.declared.wish.Wish.{Wish}
 use Rattle.event_text.specs.declared.event.Event.{Event}
 use Rattle.replay_meaning.specs.Committed.{committed}
@@ -40,7 +40,7 @@ step_commits lines line who wish before after old new u c number way told p =
     held : CloudHolds (length lines + 1) lines (session_at old.sessions) old.audit old.blind (record way.after { wish = wish })
     held = wish_holds (length lines + 1) lines (session_at old.sessions) old.audit old.blind way.after wish way.goes.holds
 
-    left : CallLeaves lines p.to (session_at old.sessions) who.session p.session.after new.audit new.blind
+    left : CallLeaves lines p.to (at who.session p.session.after (session_at old.sessions)) new.audit new.blind
     left = call lines who wish before after old new (Ended (answer.Commit c)) number way p
 
     under : p.under.state ≡ Some (record way.after { wish = wish })

@@ -27,7 +27,7 @@ use Rattle.world_core.specs.Asked.{Asks}
 use Rattle.world_core.specs.Handled.{Has, FallsShort, RunsShort, StepsTo, MakesStep, StopsShort, ComesTo, RunsTo, Runs, SettlesOn, Settles, Crashes, Does, Answers, Handled, Policies}
 use Rattle.world_core.specs.Span.{span_of}
 use Rattle.world_core.proofs.WorkerRows.{work_rows}
-use Rattle.world_core.proofs.AddedSteps.{IsAdding, SettlerAdds, adding_begins, begun_way, rows_called, rows_seen, rows_stay, rows_stepped, settler_rows, settler_rows_called, settler_went, went_adding}
+use Rattle.world_core.proofs.AddedSteps.{outset, IsAdding, SettlerAdds, adding_begins, begun_way, rows_called, rows_seen, rows_stay, rows_stepped, settler_rows, settler_rows_called, settler_went, went_adding}
 use Rattle.world_core.proofs.StandsLemmas.{settler}
 
 -- ---- a session
@@ -144,10 +144,10 @@ module _ (lines : List Line) (first : CloudState) (n : ℕ) (before after : Seen
       row : AreRowsOf errand all (settler n)
       row = errand_row errand lines r (settler n) refl (sym number)
 
-      begun_so : SettlerAdds errand n all first others begun before
+      begun_so : SettlerAdds errand n (outset all first others) begun before
       begun_so = begun_way errand lines first n r before old begun number w begins
 
-      short : (mid : Seen) (world left : World) → SettlerAdds errand n all first others world mid → RunsShort (settler n) Plain (span_of mid after world left) → AddsTo n all first after
+      short : (mid : Seen) (world left : World) → SettlerAdds errand n (outset all first others) world mid → RunsShort (settler n) Plain (span_of mid after world left) → AddsTo n all first after
       short mid world left so s = falls s.falls
         where
           falls : FallsShort (settler n) Plain (span_of mid after world s.left) → AddsTo n all first after

@@ -286,15 +286,24 @@ adds_crash lines first k n true r before after old new at some w (inr (inr memor
 
 -- ---- the settler
 
+-- from where the settler set out: the lines with its own, the cloud before them, and the other sessions
+pub record Outset : Type 0 where
+  pub lines : List Line
+  pub first : CloudState
+  pub others : Sessions
+
+abbrev pub outset : List Line → CloudState → Sessions → Outset
+outset lines first others = record { lines = lines; first = first; others = others }
+
 -- the settler is under way within its line, which is one of these lines from its begin on, and the other sessions rest
-pub record SettlerAdds (errand : Errand) (n : ℕ) (lines : List Line) (first : CloudState) (others : Sessions) (world : World) (seen : Seen) : Type 0 where
-  pub rows : AddsTo n lines first seen
+pub record SettlerAdds (errand : Errand) (n : ℕ) (from : Outset) (world : World) (seen : Seen) : Type 0 where
+  pub rows : AddsTo n from.lines from.first seen
   pub works : WorksOn errand (session_at world.sessions 0).work
-  pub rest : (m : ℕ) → m ≢ 0 → session_at world.sessions m ≡ others m
+  pub rest : (m : ℕ) → m ≢ 0 → session_at world.sessions m ≡ from.others m
 
 -- its call, between two looks
 module _ (errand : Errand) (n : ℕ) (lines : List Line) (first : CloudState) (others : Sessions) (row : AreRowsOf errand lines (settler n)) (before from under to after : Seen) (old new : World)
-    (turn : Turn Answer) (way : SettlerAdds errand n lines first others old before) (look_before : Looked before from) (wishes : SetsWish Plain from under)
+    (turn : Turn Answer) (way : SettlerAdds errand n (outset lines first others) old before) (look_before : Looked before from) (wishes : SetsWish Plain from under)
     (session : Changes 0 (λ a b. StepsSession (settler n) under to a b (Ok turn)) old.sessions new.sessions) (look_after : Looked to after) where
   settler_called : StepsSession (settler n) under to (session_at old.sessions 0) session.after (Ok turn)
   settler_called = subst (λ a. StepsSession (settler n) under to a session.after (Ok turn)) (sym (changed_was 0 _ old.sessions new.sessions session)) session.does
@@ -309,7 +318,7 @@ module _ (errand : Errand) (n : ℕ) (lines : List Line) (first : CloudState) (o
       settler_called.work settler_under.adds)
 
 module _ (errand : Errand) (n : ℕ) (lines : List Line) (first : CloudState) (others : Sessions) (row : AreRowsOf errand lines (settler n)) (before after : Seen) (old new : World) (turn : Turn Answer)
-    (way : SettlerAdds errand n lines first others old before) (p : StepsLooked (settler n) Plain (span_of before after old new) turn) where
+    (way : SettlerAdds errand n (outset lines first others) old before) (p : StepsLooked (settler n) Plain (span_of before after old new) turn) where
   settler_step : StepsSession (settler n) p.under p.to (session_at old.sessions 0) p.session.after (Ok turn)
   settler_step = settler_called errand n lines first others row before p.from p.under p.to after old new turn way p.look_before p.wishes p.session p.look_after
 
@@ -320,7 +329,7 @@ module _ (errand : Errand) (n : ℕ) (lines : List Line) (first : CloudState) (o
   settler_rest m ne = changed_at 0 _ old.sessions new.sessions p.session m ∙ at_other 0 p.session.after (session_at old.sessions) m ne ∙ way.rest m ne
 
 settler_more : (errand : Errand) (n : ℕ) (lines : List Line) (first : CloudState) (others : Sessions) → AreRowsOf errand lines (settler n) → (before after : Seen) (old new : World)
-    → SettlerAdds errand n lines first others old before → StepsLooked (settler n) Plain (span_of before after old new) More → SettlerAdds errand n lines first others new after
+    → SettlerAdds errand n (outset lines first others) old before → StepsLooked (settler n) Plain (span_of before after old new) More → SettlerAdds errand n (outset lines first others) new after
 settler_more errand n lines first others row before after old new way p =
     let own = settler_step errand n lines first others row before after old new More way p in
     record {
@@ -331,7 +340,7 @@ settler_more errand n lines first others row before after old new way p =
     }
 
 pub settler_went : (errand : Errand) (n : ℕ) (lines : List Line) (first : CloudState) (others : Sessions) → AreRowsOf errand lines (settler n) → (before : Seen) (old : World) (after : Seen) (new : World)
-    → SettlerAdds errand n lines first others old before → Went (settler n) before old after new → SettlerAdds errand n lines first others new after
+    → SettlerAdds errand n (outset lines first others) old before → Went (settler n) before old after new → SettlerAdds errand n (outset lines first others) new after
 settler_went errand n lines first others row before old after new way start = way
 settler_went errand n lines first others row before old after new way (further mid _ world _ went step) =
     settler_more errand n lines first others row mid after world new (settler_went errand n lines first others row before old mid world way went) step
@@ -345,7 +354,7 @@ module _ (errand : Errand) (lines : List Line) (first : CloudState) (n : ℕ) (r
       subst (λ m. AddsTo m (lines ++ line_of (event_for errand) r ∷ []) first before) number
       (record { state = a.state; told = a.told; adds = adds_line (length lines + 1) lines (line_of (event_for errand) r) first a.state refl a.adds })
 
-  pub begun_way : SettlerAdds errand n (lines ++ line_of (event_for errand) r ∷ []) first (session_at old.sessions) begun before
+  pub begun_way : SettlerAdds errand n (outset (lines ++ line_of (event_for errand) r ∷ []) first (session_at old.sessions)) begun before
   begun_way = record {
     rows = begun_rows;
     works = subst (λ (a : Acting). WorksOn errand a.work) (sym (has_at 0 (session_for errand) old begun begins 0 ∙ at_same 0 (session_for errand) (session_at old.sessions) 0 refl)) (works_first errand);
@@ -373,7 +382,7 @@ settles_adding errand lines first n r before after old begun new number w begins
     row : AreRowsOf errand all (settler n)
     row = errand_row errand lines r (settler n) refl (sym number)
 
-    way : SettlerAdds errand n all first others h.comes.world h.comes.mid
+    way : SettlerAdds errand n (outset all first others) h.comes.world h.comes.mid
     way = settler_went errand n all first others row before begun h.comes.mid h.comes.world (begun_way errand lines first n r before old begun number w begins) h.comes.went
 
     s : AddsTo n all first after

@@ -1,6 +1,7 @@
 -- Lines that begin an operation, note a change or drop what was noted.
 use Rattle.std.proofs.Common.{◌≡◌, ◌≤◌, ℕ, List, [], ◌∷◌, ◌++◌, length, false, Some, None, Result, Ok, Err, unwrap_or, refl, sym, ap, subst, ◌∙◌, ◌⊎◌, inl, inr, ◌≢◌}
 use Rattle.std.proofs.lemmas.Bool.{cases_eq}
+use Rattle.world_core.specs.Span.{span_of}
 use Rattle.cloud_facts.specs.Words.{IsClient, IsTree, Trouble, Turn, More, Ended, Stopped, CloudState, Seen, Goes, Ends, at}
 use Rattle.db_base.specs.Ids.{IsPage}
 use Rattle.db_base.specs.Change.{IsChange}
@@ -70,7 +71,7 @@ refused_is r rule e = cc
 
 -- the operation of a line keeps what stands
 begun_stands : (lines : List Line) (event : Event) (k : ℕ) (before after : Seen) (old new : World) (t : CloudState) (o : Op) (r : Reply) → IsRightOp o
-    → (ready : Ready lines event k before after old new t) → (c : Changes k (BeginsOp o (Ok r)) old.sessions new.sessions)
+    → (ready : Ready lines event k (span_of before after old new) t) → (c : Changes k (BeginsOp o (Ok r)) old.sessions new.sessions)
     → SessionsStand ready.stands.holds.book ready.stands.holds.order t (at k c.after (session_at old.sessions))
 begun_stands lines event k before after old new t o r right ready c =
     begins_keeps o ready.stands.holds.book ready.stands.holds.order t (session_at old.sessions) k c.after c.does.begun right ready.stands.holds.stand
@@ -295,14 +296,14 @@ looks k tree attr r lines a b (Err refused.Memory) acts (inl (bad, above, same))
 looks k tree attr r lines a b (Err refused.Memory) acts (inr (few, never)) e = absurd never
 
 pub opening_begun : (lines : List Line) (k client : ℕ) (r : Reply) (before after : Seen) (old new : World) (t : CloudState) → IsClient client
-    → Ready lines (event.Open k client) k before after old new t → Changes k (BeginsOp (op.Open client) (Ok r)) old.sessions new.sessions
+    → Ready lines (event.Open k client) k (span_of before after old new) t → Changes k (BeginsOp (op.Open client) (Ok r)) old.sessions new.sessions
     → LineLeaves (lines ++ line_of (event.Open k client) r ∷ []) new after r
 opening_begun lines k client r before after old new t is ready c =
     let left = opens k client r lines c.before c.after c.does.begun (acts_before lines (event.Open k client) k before after old new t _ ready c) c.does.begins c.does.replies in
     quiet_line lines (event.Open k client) r k before after old new t _ ready c (begun_stands lines (event.Open k client) k before after old new t (op.Open client) r is ready c) left.0 left.1
 
 -- .. and leaves what stands
-module _ (lines : List Line) (event : Event) (k : ℕ) (r : Reply) (before after : Seen) (old new : World) (t : CloudState) (ready : Ready lines event k before after old new t) where
+module _ (lines : List Line) (event : Event) (k : ℕ) (r : Reply) (before after : Seen) (old new : World) (t : CloudState) (ready : Ready lines event k (span_of before after old new) t) where
   in_hand_begun : (o : Op) (own : Home → Work) → IsRightOp o → (c : Changes k (BeginsOp o (Ok r)) old.sessions new.sessions)
       → ((home : Home) → WorksAs (work.Idle home) (standing lines k) → ActsAs (record c.before { work = own home; shown = Nothing }) (after_own event reply.Begun (standing lines k)))
       → BeginsWith (λ home. HasInHand c.before (own home)) c.before c.after c.does.begun → LineLeaves (lines ++ line_of event r ∷ []) new after r
@@ -315,42 +316,42 @@ module _ (lines : List Line) (event : Event) (k : ℕ) (r : Reply) (before after
   same_buffer o c = (acts_before lines event k before after old new t _ ready c).buffer
 
 pub folding_begun : (lines : List Line) (k tree : ℕ) (r : Reply) (before after : Seen) (old new : World) (t : CloudState) → IsTree tree
-    → Ready lines (event.Tree k tree) k before after old new t → Changes k (BeginsOp (op.Tree tree) (Ok r)) old.sessions new.sessions
+    → Ready lines (event.Tree k tree) k (span_of before after old new) t → Changes k (BeginsOp (op.Tree tree) (Ok r)) old.sessions new.sessions
     → LineLeaves (lines ++ line_of (event.Tree k tree) r ∷ []) new after r
 folding_begun lines k tree r before after old new t is ready c =
     in_hand_begun lines (event.Tree k tree) k r before after old new t ready (op.Tree tree) (folding_begun_by tree) is c
     (λ home idle. record { buffer = same_buffer lines (event.Tree k tree) k r before after old new t ready (op.Tree tree) c; work = (refl, idle.1, tt) }) c.does.begins
 
 pub paging_begun : (lines : List Line) (k tree page : ℕ) (r : Reply) (before after : Seen) (old new : World) (t : CloudState) → IsTree tree → IsPage page
-    → Ready lines (event.Page k tree page) k before after old new t → Changes k (BeginsOp (op.Page tree page) (Ok r)) old.sessions new.sessions
+    → Ready lines (event.Page k tree page) k (span_of before after old new) t → Changes k (BeginsOp (op.Page tree page) (Ok r)) old.sessions new.sessions
     → LineLeaves (lines ++ line_of (event.Page k tree page) r ∷ []) new after r
 paging_begun lines k tree page r before after old new t is_tree is_page ready c =
     in_hand_begun lines (event.Page k tree page) k r before after old new t ready (op.Page tree page) (paging_begun_by tree page) (is_tree, is_page) c
     (λ home idle. record { buffer = same_buffer lines (event.Page k tree page) k r before after old new t ready (op.Page tree page) c; work = (refl, idle.1) }) c.does.begins
 
 pub close_begun : (lines : List Line) (k : ℕ) (r : Reply) (before after : Seen) (old new : World) (t : CloudState)
-    → Ready lines (event.Close k) k before after old new t → Changes k (BeginsOp op.Close (Ok r)) old.sessions new.sessions
+    → Ready lines (event.Close k) k (span_of before after old new) t → Changes k (BeginsOp op.Close (Ok r)) old.sessions new.sessions
     → LineLeaves (lines ++ line_of (event.Close k) r ∷ []) new after r
 close_begun lines k r before after old new t ready c =
     in_hand_begun lines (event.Close k) k r before after old new t ready op.Close (λ home. work.Closing home.lease) tt c
     (λ home idle. record { buffer = same_buffer lines (event.Close k) k r before after old new t ready op.Close c; work = refl }) c.does.begins
 
 pub renewal_begun : (lines : List Line) (k : ℕ) (r : Reply) (before after : Seen) (old new : World) (t : CloudState)
-    → Ready lines (event.Renew k) k before after old new t → Changes k (BeginsOp op.Renew (Ok r)) old.sessions new.sessions
+    → Ready lines (event.Renew k) k (span_of before after old new) t → Changes k (BeginsOp op.Renew (Ok r)) old.sessions new.sessions
     → LineLeaves (lines ++ line_of (event.Renew k) r ∷ []) new after r
 renewal_begun lines k r before after old new t ready c =
     in_hand_begun lines (event.Renew k) k r before after old new t ready op.Renew (λ home. work.Renewing home) tt c
     (λ home idle. record { buffer = same_buffer lines (event.Renew k) k r before after old new t ready op.Renew c; work = (refl, idle.1) }) c.does.begins
 
 pub commit_begun : (lines : List Line) (k : ℕ) (r : Reply) (before after : Seen) (old new : World) (t : CloudState)
-    → Ready lines (event.Commit k) k before after old new t → Changes k (BeginsOp op.Commit (Ok r)) old.sessions new.sessions
+    → Ready lines (event.Commit k) k (span_of before after old new) t → Changes k (BeginsOp op.Commit (Ok r)) old.sessions new.sessions
     → LineLeaves (lines ++ line_of (event.Commit k) r ∷ []) new after r
 commit_begun lines k r before after old new t ready c =
     let left = commits k r lines c.before c.after c.does.begun (acts_before lines (event.Commit k) k before after old new t _ ready c) c.does.begins c.does.replies in
     quiet_line lines (event.Commit k) r k before after old new t _ ready c (begun_stands lines (event.Commit k) k before after old new t op.Commit r tt ready c) left.0 left.1
 
 pub read_begun : (lines : List Line) (k tree : ℕ) (key : List ℕ) (r : Reply) (before after : Seen) (old new : World) (t : CloudState) → IsTree tree
-    → Ready lines (event.Read k tree key) k before after old new t → Changes k (BeginsOp (op.Read tree key) (Ok r)) old.sessions new.sessions
+    → Ready lines (event.Read k tree key) k (span_of before after old new) t → Changes k (BeginsOp (op.Read tree key) (Ok r)) old.sessions new.sessions
     → LineLeaves (lines ++ line_of (event.Read k tree key) r ∷ []) new after r
 read_begun lines k tree key r before after old new t is ready c =
     let left = reads k tree key r lines c.before c.after c.does.begun (acts_before lines (event.Read k tree key) k before after old new t _ ready c) c.does.begins c.does.replies in
@@ -358,7 +359,7 @@ read_begun lines k tree key r before after old new t is ready c =
     (begun_stands lines (event.Read k tree key) k before after old new t (op.Read tree key) r is ready c) left.0 left.1
 
 pub scan_begun : (lines : List Line) (k tree : ℕ) (first last : List ℕ) (r : Reply) (before after : Seen) (old new : World) (t : CloudState) → IsTree tree
-    → Ready lines (event.Scan k tree first last) k before after old new t → Changes k (BeginsOp (op.Scan tree (bound_of first) (bound_of last)) (Ok r)) old.sessions new.sessions
+    → Ready lines (event.Scan k tree first last) k (span_of before after old new) t → Changes k (BeginsOp (op.Scan tree (bound_of first) (bound_of last)) (Ok r)) old.sessions new.sessions
     → LineLeaves (lines ++ line_of (event.Scan k tree first last) r ∷ []) new after r
 scan_begun lines k tree first last r before after old new t is ready c =
     let left = scans k tree first last r lines c.before c.after c.does.begun (acts_before lines (event.Scan k tree first last) k before after old new t _ ready c) c.does.begins c.does.replies in
@@ -366,7 +367,7 @@ scan_begun lines k tree first last r before after old new t is ready c =
     (begun_stands lines (event.Scan k tree first last) k before after old new t (op.Scan tree (bound_of first) (bound_of last)) r is ready c) left.0 left.1
 
 pub look_begun : (lines : List Line) (k tree : ℕ) (attr : List ℕ) (r : Reply) (before after : Seen) (old new : World) (t : CloudState) → IsTree tree
-    → Ready lines (event.Lookup k tree attr) k before after old new t → Changes k (BeginsOp (op.Lookup tree attr) (Ok r)) old.sessions new.sessions
+    → Ready lines (event.Lookup k tree attr) k (span_of before after old new) t → Changes k (BeginsOp (op.Lookup tree attr) (Ok r)) old.sessions new.sessions
     → LineLeaves (lines ++ line_of (event.Lookup k tree attr) r ∷ []) new after r
 look_begun lines k tree attr r before after old new t is ready c =
     let left = looks k tree attr r lines c.before c.after c.does.begun (acts_before lines (event.Lookup k tree attr) k before after old new t _ ready c) c.does.begins c.does.replies in
@@ -377,7 +378,7 @@ look_begun lines k tree attr r before after old new t is ready c =
 
 -- a session that stays
 same_stands : (lines : List Line) (event : Event) (k : ℕ) (before after : Seen) (old new : World) (t : CloudState) (Does : Acting → Acting → Type 0)
-    → (ready : Ready lines event k before after old new t) → (c : Changes k Does old.sessions new.sessions) → c.after ≡ c.before
+    → (ready : Ready lines event k (span_of before after old new) t) → (c : Changes k Does old.sessions new.sessions) → c.after ≡ c.before
     → SessionsStand ready.stands.holds.book ready.stands.holds.order t (at k c.after (session_at old.sessions))
 same_stands lines event k before after old new t Does ready c same =
     same_sessions ready.stands.holds.book ready.stands.holds.order t (session_at old.sessions) (at k c.after (session_at old.sessions)) each ready.stands.holds.stand
@@ -397,7 +398,7 @@ works_with w s buffer opened works = absurd (cc)
 
 -- another buffer of an open client
 buffer_line : (lines : List Line) (event : Event) (r : Reply) (k : ℕ) (before after : Seen) (old new : World) (t : CloudState) (Does : Acting → Acting → Type 0) (buffer : List Noted)
-    → (ready : Ready lines event k before after old new t) → (c : Changes k Does old.sessions new.sessions) → c.after ≡ record c.before { buffer = buffer } → rule_of c.before.work ≡ None
+    → (ready : Ready lines event k (span_of before after old new) t) → (c : Changes k Does old.sessions new.sessions) → c.after ≡ record c.before { buffer = buffer } → rule_of c.before.work ≡ None
     → MayCommit buffer → after_own event r (standing lines k) ≡ record (standing lines k) { buffer = buffer } → IsNoReport r → LineLeaves (lines ++ line_of event r ∷ []) new after r
 buffer_line lines event r k before after old new t Does buffer ready c is opened may own plain =
     quiet_line lines event r k before after old new t Does ready c stand (subst (ActsAs c.after) (sym own) acts) plain
@@ -423,7 +424,7 @@ buffer_line lines event r k before after old new t Does buffer ready c is opened
 -- a line that notes something
 pub notes : (lines : List Line) (event : Event) (k : ℕ) (noting : Noting) (r : Reply) (before after : Seen) (old new : World) (t : CloudState) → IsPlace noting → IsChange (change_in noting)
     → ((q : Reply) (s : Standing) → after_own event q s ≡ joins (joined noting) q s)
-    → Ready lines event k before after old new t → Changes k (NotesChange noting (Ok r)) old.sessions new.sessions → LineLeaves (lines ++ line_of event r ∷ []) new after r
+    → Ready lines event k (span_of before after old new) t → Changes k (NotesChange noting (Ok r)) old.sessions new.sessions → LineLeaves (lines ++ line_of event r ∷ []) new after r
 notes lines event k noting r before after old new t is_place is_change own ready c = on c.does.noted c.does.notes c.does.replies
   where
     s : Standing
@@ -446,7 +447,7 @@ notes lines event k noting r before after old new t is_place is_change own ready
 
 -- a line that drops what was noted
 pub aborts : (lines : List Line) (k : ℕ) (r : Reply) (before after : Seen) (old new : World) (t : CloudState)
-    → Ready lines (event.Abort k) k before after old new t → Changes k (DropsChanges (Ok r)) old.sessions new.sessions → LineLeaves (lines ++ line_of (event.Abort k) r ∷ []) new after r
+    → Ready lines (event.Abort k) k (span_of before after old new) t → Changes k (DropsChanges (Ok r)) old.sessions new.sessions → LineLeaves (lines ++ line_of (event.Abort k) r ∷ []) new after r
 aborts lines k r before after old new t ready c = on c.does.dropped c.does.drops c.does.replies
   where
     on : (dropped : Result (Unit {0}) Refused) → AbortsIn c.before c.after dropped → IsOk r (done_reply reply.Aborted dropped) → LineLeaves (lines ++ line_of (event.Abort k) r ∷ []) new after r

@@ -32,7 +32,7 @@ use Rattle.world_core.specs.Put.{Put, put_of, put_of_hand}
 use Rattle.world_core.specs.Sessions.{Changes, HasPut, IsAtWork}
 use Rattle.world_core.specs.Stands.{Grows}
 use Rattle.world_core.specs.Handled.{BeginsCheckpoint, ComesTo, IsOpen, FallsShort, MakesOne, NotesCall, NotesEnd, NotesStep, SetsWish, StepsLooked, Works, no_checkpoint, checkpoint_more, as_one, checkpoint_of, done_by, is_done, note_of_hand, gone_through}
-use Rattle.world_core.specs.Span.{span_of}
+use Rattle.world_core.specs.Span.{Span, span_of}
 use Rattle.world_core.proofs.Going.{after_there, put_before, same_session}
 use Rattle.world_core.proofs.GrowthLemmas.{grows_between}
 use Rattle.world_core.proofs.Landing.{audited_none}
@@ -144,18 +144,27 @@ stays_open who queue done before after old new opened m =
 
 -- ---- one after another
 
+-- of at most so many checkpoints so many were done, and so many passed over
+pub record Headway : Type 0 where
+  pub most : ℕ
+  pub done : ℕ
+  pub passed : ℕ
+
+abbrev pub headway : ℕ → ℕ → ℕ → Headway
+headway most done passed = record { most = most; done = done; passed = passed }
+
 -- some checkpoints are made, and these queues are left
-pub record IsGoing (who : Caller) (queues left : List QueueName) (most done passed : ℕ) (before after : Seen) (old new : World) : Type 0 where
+pub record IsGoing (who : Caller) (queues left : List QueueName) (so : Headway) (span : Span) : Type 0 where
   pub gone : List QueueName
   pub whole : queues ≡ gone ++ left
-  pub works : Works who before old (gone_through gone done passed) after new
-  pub opened : IsOpen who.session new.sessions
+  pub works : Works who span.before span.old (gone_through gone so.done so.passed) span.after span.new
+  pub opened : IsOpen who.session span.new.sessions
   pub pending : All IsPending left
-  pub done_most : done + length left ≤ most
-  pub passed_most : passed + length left ≤ most
+  pub done_most : so.done + length left ≤ so.most
+  pub passed_most : so.passed + length left ≤ so.most
 
 pub going_first : (who : Caller) (queues : List QueueName) (most : ℕ) (before : Seen) (old : World) → most ≡ length queues → IsOpen who.session old.sessions → All IsPending queues
-    → IsGoing who queues queues most 0 0 before before old old
+    → IsGoing who queues queues (headway most 0 0) (span_of before before old old)
 going_first who queues most before old is opened pending = record {
   gone = [];
   whole = refl;
@@ -167,8 +176,8 @@ going_first who queues most before old is opened pending = record {
 }
 
 pub going_more : (who : Caller) (queues left rest : List QueueName) (queue : QueueName) (most done passed done_after passed_after : ℕ) (kept : Bool) (before mid after : Seen) (old world new : World)
-    → left ≡ queue ∷ rest → IsGoing who queues left most done passed before mid old world → MakesOne who queue kept (span_of mid after world new)
-    → done_after ≡ done + as_one kept → passed_after ≡ passed + as_one (not kept) → IsGoing who queues rest most done_after passed_after before after old new
+    → left ≡ queue ∷ rest → IsGoing who queues left (headway most done passed) (span_of before mid old world) → MakesOne who queue kept (span_of mid after world new)
+    → done_after ≡ done + as_one kept → passed_after ≡ passed + as_one (not kept) → IsGoing who queues rest (headway most done_after passed_after) (span_of before after old new)
 going_more who queues left rest queue most done passed done_after passed_after kept before mid after old world new is g m d p = record {
   gone = g.gone ++ queue ∷ [];
   whole = g.whole ∙ ap (λ l. g.gone ++ l) is ∙ sym (append_assoc g.gone (queue ∷ []) rest);

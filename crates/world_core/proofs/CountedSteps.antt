@@ -243,7 +243,7 @@ module _ (lines : List Line) (who : Caller) (number : who.event ≡ length lines
     held : CloudHolds (length lines + 1) lines (session_at old.sessions) old.audit old.blind (record way.after { wish = wish })
     held = wish_holds (length lines + 1) lines (session_at old.sessions) old.audit old.blind way.after wish way.goes.holds
 
-    leaves : CallLeaves lines p.to (session_at old.sessions) who.session p.session.after new.audit new.blind
+    leaves : CallLeaves lines p.to (at who.session p.session.after (session_at old.sessions)) new.audit new.blind
     leaves = call lines who wish before after old new turn number way p
 
     steps : StepsSession who p.under p.to (session_at old.sessions who.session) p.session.after (Ok turn)
@@ -340,7 +340,7 @@ module _ (n k : ℕ) (lines : List Line) (home : Home) (row : IsWorkersRow lines
     held_in : CloudHolds n lines (session_at old.sessions) old.audit old.blind (record h.state { wish = Plain })
     held_in = wish_holds n lines (session_at old.sessions) old.audit old.blind h.state Plain h.holds
 
-    left_in : CallLeavesUpto n lines p.to (session_at old.sessions) k p.session.after new.audit new.blind
+    left_in : CallLeavesUpto n lines p.to (at k p.session.after (session_at old.sessions)) new.audit new.blind
     left_in = worker_call n k lines home row first before after old new turn w h p
 
     steps_in : StepsSession (worker k n) p.under p.to (session_at old.sessions k) p.session.after (Ok turn)

@@ -340,7 +340,7 @@ module _ (lines : List Line) (n : ℕ) (number : length lines + 1 ≡ n) (before
         h : CloudHolds n lined (session_at world.sessions) world.audit world.blind (record g.state { wish = Plain })
         h = wish_holds n lined (session_at world.sessions) world.audit world.blind g.state Plain g.holds
 
-        c : CallLeavesUpto n lined p.to (session_at world.sessions) 0 p.session.after next.audit next.blind
+        c : CallLeavesUpto n lined p.to (at 0 p.session.after (session_at world.sessions)) next.audit next.blind
         c = settler_call errand n lined (session_at old.sessions) row mid end world next turn g p
 
         its : StepsSession (settler n) p.under p.to (session_at world.sessions 0) p.session.after (Ok turn)

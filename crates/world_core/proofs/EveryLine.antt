@@ -34,7 +34,7 @@ pub record Served (lines : List Line) (n k : ℕ) (t : CloudState) (before : See
   pub stands : LinesStand lines old t
 
 ready_of : (lines : List Line) (event : Event) (n k : ℕ) (before after : Seen) (old new : World) (t : CloudState) → session_of event ≡ k → Served lines n k t before old
-    → MakesNoCall (span_of before after old new) → Ready lines event k before after old new t
+    → MakesNoCall (span_of before after old new) → Ready lines event k (span_of before after old new) t
 ready_of lines event n k before after old new t own s quiet = record { own = own; some = s.session.some; quiet = quiet; told = s.told; stands = s.stands }
 
 -- a request to a session is served, or it is not done

@@ -57,7 +57,7 @@ use Rattle.world_core.specs.Handled.{Has, BeginsOp, BreaksOff, SetsWish, StepsLo
 use Rattle.world_core.specs.Added.{WorldAdds}
 use Rattle.world_core.specs.Opened.{AsksToOpen, IsOpenedIn, OpenEachOnce, WorldApart}
 use Rattle.world_core.specs.Span.{span_of}
-use Rattle.world_core.proofs.AddedSteps.{IsAdding, SettlerAdds, adding_begins, begun_way, settler_went, went_adding}
+use Rattle.world_core.proofs.AddedSteps.{outset, IsAdding, SettlerAdds, adding_begins, begun_way, settler_went, went_adding}
 use Rattle.world_core.proofs.BrokenOff.{broken_away}
 use Rattle.world_core.proofs.StandsLemmas.{changed_at, changed_was, settler}
 
@@ -433,7 +433,7 @@ module _ (events : List Event) (first : CloudState) where
     row : AreRowsOf errand all (settler n)
     row = errand_row errand lines reply.Called (settler n) refl (sym at)
 
-    settler_called : (before from under to after : Seen) (old new : World) (turn : Turn Answer) → SettlerAdds errand n all first others old before → Looked before from
+    settler_called : (before from under to after : Seen) (old new : World) (turn : Turn Answer) → SettlerAdds errand n (outset all first others) old before → Looked before from
         → SetsWish Plain from under → Changes 0 (λ a b. StepsSession (settler n) under to a b (Ok turn)) old.sessions new.sessions → Looked to after
         → WorldApart events first old before → WorldApart events first new after
     settler_called before from under to after old new turn way look_before wishes session look_after h =
@@ -445,14 +445,14 @@ module _ (events : List Event) (first : CloudState) where
         (errand_apart errand Was lines line (settler n) under to first f session.after turn (sym at) way.works row closed own.work
         (wished f Plain from under wishes (seen_stays f before from look_before.stays h))))
 
-    settler_on : (before : Seen) (old : World) (after : Seen) (new : World) → SettlerAdds errand n all first others old before → Went (settler n) before old after new
+    settler_on : (before : Seen) (old : World) (after : Seen) (new : World) → SettlerAdds errand n (outset all first others) old before → Went (settler n) before old after new
         → WorldApart events first old before → WorldApart events first new after
     settler_on before old after new way start h = h
     settler_on before old after new way (further mid _ world _ went p) h =
         settler_called mid p.from p.under p.to after world new More (settler_went errand n all first others row before old mid world way went) p.look_before p.wishes p.session p.look_after
         (settler_on before old mid world way went h)
 
-    settler_short : (before after : Seen) (old new : World) → SettlerAdds errand n all first others old before → RunsShort (settler n) Plain (span_of before after old new)
+    settler_short : (before after : Seen) (old new : World) → SettlerAdds errand n (outset all first others) old before → RunsShort (settler n) Plain (span_of before after old new)
         → WorldApart events first old before → WorldApart events first new after
     settler_short before after old new way s h = breaks 0 after s.left new s.breaks (falls s.falls)
       where
@@ -461,7 +461,7 @@ module _ (events : List Event) (first : CloudState) where
             apart_same Was first _ (session_at s.left.sessions) after (λ j. ap (λ (l : List Acting). session_at l j) un.sessions) (seen_stays _ before after un.looked.stays h)
         falls (inr p) = settler_called before p.from p.under p.to after old s.left p.turn way p.look_before p.wishes p.session p.look_after h
 
-    settles_on : (before after : Seen) (old new : World) (result : Result Reply WorldFault) → SettlerAdds errand n all first others old before → SettlesOn errand (settler n) (span_of before after old new) result
+    settles_on : (before after : Seen) (old new : World) (result : Result Reply WorldFault) → SettlerAdds errand n (outset all first others) old before → SettlesOn errand (settler n) (span_of before after old new) result
         → WorldApart events first old before → WorldApart events first new after
     settles_on before after old new result way (inl s) h =
         let c = s.comes in

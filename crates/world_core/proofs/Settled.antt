@@ -54,7 +54,7 @@ use Rattle.world_core.specs.declared.asked.Asked.{Asked}
 use Rattle.world_core.specs.declared.asked.Asked.TheVariants.{Session, Wait, Report, Settle, Sweep}
 use Rattle.world_core.specs.World.{World}
 use Rattle.world_core.specs.declared.world.WorldFault.{WorldFault}
-use Rattle.world_core.specs.Span.{span_of}
+use Rattle.world_core.specs.Span.{Span, span_of}
 use Rattle.world_core.proofs.StandsLemmas.{changed_at, changed_was, no_memory}
 use Rattle.std.proofs.lemmas.Option.{same_Some}
 
@@ -454,13 +454,13 @@ asked_calm n before after old new t r told stands free (Report tree) is answers 
 asked_calm n before after old new t r told stands free (Sweep tree) is answers each = absurd (cc (is))
 
 -- what is asked of a settling is right
-record AsksRightly (n : ℕ) (asked : Asked) (before after : Seen) (old new : World) (r : Reply) (answers : Answers n asked (span_of before after old new) (Ok r)) : Type 0 where
+record AsksRightly (n : ℕ) (asked : Asked) (span : Span) (r : Reply) (answers : Answers n asked span (Ok r)) : Type 0 where
   sound : (posture : Posture) → IsSoundReply posture r
-  explains : EachAsked StepExplains n asked (span_of before after old new) (Ok r) answers
-  calm : EachAsked StepIsCalm n asked (span_of before after old new) (Ok r) answers → (u : CloudState) → after.state ≡ Some u → IsUntroubled u (work_at new 0) × SettlesWell u r
+  explains : EachAsked StepExplains n asked span (Ok r) answers
+  calm : EachAsked StepIsCalm n asked span (Ok r) answers → (u : CloudState) → span.after.state ≡ Some u → IsUntroubled u (work_at span.new 0) × SettlesWell u r
 
 asked_right : (n : ℕ) (before after : Seen) (old new : World) (t : CloudState) (r : Reply) → before.state ≡ Some t → SomeBookStands (session_at old.sessions) t
-    → (asked : Asked) → asked ≡ Settle → (answers : Answers n asked (span_of before after old new) (Ok r)) → AsksRightly n asked before after old new r answers
+    → (asked : Asked) → asked ≡ Settle → (answers : Answers n asked (span_of before after old new) (Ok r)) → AsksRightly n asked (span_of before after old new) r answers
 asked_right n before after old new t r told stands Settle is answers =
     let sound = settling_sound n before after old new r t told stands answers in
     let explains = settling_explains n before after old new r t told stands answers in

@@ -104,7 +104,7 @@ step_stops lines who wish before after old new t number way p =
     held : CloudHolds (length lines + 1) lines (session_at old.sessions) old.audit old.blind (record way.after { wish = wish })
     held = wish_holds (length lines + 1) lines (session_at old.sessions) old.audit old.blind way.after wish way.goes.holds
 
-    left : CallLeaves lines p.to (session_at old.sessions) who.session p.session.after new.audit new.blind
+    left : CallLeaves lines p.to (at who.session p.session.after (session_at old.sessions)) new.audit new.blind
     left = call lines who wish before after old new (Ended (answer.Trouble t)) number way p
 
     under : p.under.state ≡ Some (record way.after { wish = wish })
@@ -122,7 +122,7 @@ step_commits lines who wish before after old new c number way p =
     held : CloudHolds (length lines + 1) lines (session_at old.sessions) old.audit old.blind (record way.after { wish = wish })
     held = wish_holds (length lines + 1) lines (session_at old.sessions) old.audit old.blind way.after wish way.goes.holds
 
-    left : CallLeaves lines p.to (session_at old.sessions) who.session p.session.after new.audit new.blind
+    left : CallLeaves lines p.to (at who.session p.session.after (session_at old.sessions)) new.audit new.blind
     left = call lines who wish before after old new (Ended (answer.Commit c)) number way p
 
     under : p.under.state ≡ Some (record way.after { wish = wish })
@@ -281,7 +281,7 @@ settler_stops errand n lines first row before after old new t way p =
     held : CloudHolds n lines (session_at old.sessions) old.audit old.blind (record way.state { wish = Plain })
     held = wish_holds n lines (session_at old.sessions) old.audit old.blind way.state Plain way.holds
 
-    left : CallLeavesUpto n lines p.to (session_at old.sessions) 0 p.session.after new.audit new.blind
+    left : CallLeavesUpto n lines p.to (at 0 p.session.after (session_at old.sessions)) new.audit new.blind
     left = settler_call errand n lines first row before after old new (Ended (answer.Trouble t)) way p
 
     under : p.under.state ≡ Some (record way.state { wish = Plain })

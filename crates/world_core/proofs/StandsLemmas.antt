@@ -45,7 +45,7 @@ use Rattle.world_core.specs.Replying.{declined, trouble_reply, value_reply, Repl
 use Rattle.world_core.specs.Sessions.{Changes}
 use Rattle.world_core.specs.Handled.{Declines, Has, MakesNoCall, StepsLooked, RefusesStep, MakesStep, Went, start, further, RunsTo, Runs, SettlesTo, SettlesOn, Settles, GivesLedger, Policies, Dies, DiesDone, Crashes, WaitsFor, WaitsTooLong, Shows, Reports}
 use Rattle.world_core.specs.Stands.{IsLeft, LeftIsRight}
-use Rattle.world_core.specs.Span.{span_of}
+use Rattle.world_core.specs.Span.{Span, span_of}
 use Rattle.world_core.proofs.Behind.{LinesStand, LineLeaves}
 use Rattle.world_core.proofs.Errands.{IsRightErrand, begins_errand, works_first}
 use Rattle.world_core.proofs.Texts.{commit_is, errand_is}
@@ -133,22 +133,22 @@ pub changed_rests : (number : ℕ) (Does : Acting → Acting → Type 0) (old ne
 changed_rests number Does old new some c rests = changed_at number Does old new c 0 ∙ at_other number c.after (session_at old) 0 (λ e. absurd (omega (arith, some, e))) ∙ rests
 
 -- what is known of a line that makes no call, before its session is looked at
-pub record Ready (lines : List Line) (event : Event) (number : ℕ) (before after : Seen) (old new : World) (t : CloudState) : Type 0 where
+pub record Ready (lines : List Line) (event : Event) (number : ℕ) (span : Span) (t : CloudState) : Type 0 where
   pub own : session_of event ≡ number
   pub some : 1 ≤ number
-  pub quiet : MakesNoCall (span_of before after old new)
-  pub told : before.state ≡ Some t
-  pub stands : LinesStand lines old t
+  pub quiet : MakesNoCall span
+  pub told : span.before.state ≡ Some t
+  pub stands : LinesStand lines span.old t
 
 -- how the session stood before
 pub acts_before : (lines : List Line) (event : Event) (number : ℕ) (before after : Seen) (old new : World) (t : CloudState) (Does : Acting → Acting → Type 0)
-    → Ready lines event number before after old new t → (c : Changes number Does old.sessions new.sessions) → ActsAs c.before (standing lines number)
+    → Ready lines event number (span_of before after old new) t → (c : Changes number Does old.sessions new.sessions) → ActsAs c.before (standing lines number)
 acts_before lines event number before after old new t Does ready c =
     subst (λ a. ActsAs a (standing lines number)) (changed_was number Does old.sessions new.sessions c) (ready.stands.acts number)
 
 -- the session that a line leaves without a call stands as the line and its reply say
 pub quiet_line : (lines : List Line) (event : Event) (r : Reply) (number : ℕ) (before after : Seen) (old new : World) (t : CloudState) (Does : Acting → Acting → Type 0)
-    → (ready : Ready lines event number before after old new t) → (c : Changes number Does old.sessions new.sessions)
+    → (ready : Ready lines event number (span_of before after old new) t) → (c : Changes number Does old.sessions new.sessions)
     → SessionsStand ready.stands.holds.book ready.stands.holds.order t (at number c.after (session_at old.sessions))
     → ActsAs c.after (after_own event r (standing lines number)) → IsNoReport r → LineLeaves (lines ++ line_of event r ∷ []) new after r
 quiet_line lines event r number before after old new t Does ready c stand acts plain =
@@ -172,7 +172,7 @@ quiet_line lines event r number before after old new t Does ready c stand acts p
 
 -- a line that leaves its session as it was
 pub quiet_refused : (lines : List Line) (event : Event) (r : Reply) (rule : Refusal) (number : ℕ) (before after : Seen) (old new : World) (t : CloudState) (Does : Acting → Acting → Type 0)
-    → (ready : Ready lines event number before after old new t) → (c : Changes number Does old.sessions new.sessions)
+    → (ready : Ready lines event number (span_of before after old new) t) → (c : Changes number Does old.sessions new.sessions)
     → SessionsStand ready.stands.holds.book ready.stands.holds.order t (at number c.after (session_at old.sessions))
     → r ≡ reply.Refused rule → c.after ≡ c.before → LineLeaves (lines ++ line_of event r ∷ []) new after r
 quiet_refused lines event r rule number before after old new t Does ready c stand is same =
@@ -218,7 +218,7 @@ module _ (lines : List Line) (who : Caller) (wish : Wish) (before after : Seen) 
   pub told_under : p.under.state ≡ Some wished
   told_under = p.wishes.set x (p.look_before.stays x way.told)
 
-  pub call : CallLeaves lines p.to f who.session p.session.after new.audit new.blind
+  pub call : CallLeaves lines p.to (at who.session p.session.after f) new.audit new.blind
   call =
       call_holds lines who p.under p.to wished f p.session.after turn old.audit new.audit old.blind new.blind event told_under
       (wish_holds (length lines + 1) lines f old.audit old.blind x wish way.goes.holds) (way.goes.acts who.session).work steps_own
@@ -394,7 +394,7 @@ dies : (lines : List Line) (k : ℕ) (done : Bool) (r : Reply) (before after : S
 dies lines k done r before after old new t some told stands h =
     let is : r ≡ reply.Crashed = cc (h.replies) in
     let P : Reply → Type 0 = λ z. LineLeaves (lines ++ line_of (event.Crash k done) z ∷ []) new after z in
-    let ready : Ready lines (event.Crash k done) k before after old new t = record { own = refl; some = some; quiet = h.quiet; told = told; stands = stands } in
+    let ready : Ready lines (event.Crash k done) k (span_of before after old new) t = record { own = refl; some = some; quiet = h.quiet; told = told; stands = stands } in
     let S : Acting → Type 0 = λ a. SessionsStand stands.holds.book stands.holds.order t (at k a (session_at old.sessions)) in
     subst P (sym is) (quiet_line lines (event.Crash k done) reply.Crashed k before after old new t _ ready h.closed
     (subst S (sym h.closed.does) (crash_keeps stands.holds.book stands.holds.order t (session_at old.sessions) k stands.holds.stand))
@@ -508,7 +508,7 @@ module _ (errand : Errand) (n : ℕ) (lines : List Line) (first : Sessions) (row
   pub settler_own : StepsSession (settler n) p.under p.to (held 0) p.session.after (Ok turn)
   settler_own = subst (λ a. StepsSession (settler n) p.under p.to a p.session.after (Ok turn)) (sym settler_was) p.session.does
 
-  pub settler_call : CallLeavesUpto n lines p.to held 0 p.session.after new.audit new.blind
+  pub settler_call : CallLeavesUpto n lines p.to (at 0 p.session.after held) new.audit new.blind
   settler_call =
       errand_holds errand n lines (settler n) p.under p.to with_wish held p.session.after turn old.audit new.audit old.blind new.blind (omega arith)
       (p.wishes.set way.state (p.look_before.stays way.state way.told)) (wish_holds n lines held old.audit old.blind way.state Plain way.holds) way.works row settler_own

@@ -214,7 +214,7 @@ module _ (n k : ℕ) (lines : List Line) (home : Home) (row : IsWorkersRow lines
     pub worker_own : StepsSession (worker k n) p.under p.to (held k) p.session.after (Ok turn)
     worker_own = subst (λ a. StepsSession (worker k n) p.under p.to a p.session.after (Ok turn)) (sym worker_was) p.session.does
 
-    pub worker_call : CallLeavesUpto n lines p.to held k p.session.after new.audit new.blind
+    pub worker_call : CallLeavesUpto n lines p.to (at k p.session.after held) new.audit new.blind
     worker_call =
         work_holds n lines (worker k n) home p.under p.to (record h.state { wish = Plain }) held p.session.after turn old.audit new.audit old.blind new.blind (omega arith)
         (p.wishes.set h.state (p.look_before.stays h.state h.told)) (wish_holds n lines held old.audit old.blind h.state Plain h.holds) w.works row worker_own

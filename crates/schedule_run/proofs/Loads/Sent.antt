@@ -9,7 +9,7 @@ use Rattle.cloud_facts.proofs.Book.Names.{at_same}
 use Rattle.cloud_facts.proofs.Book.Places.{get_front, get_map, in_front}
 use Rattle.cloud_facts.proofs.Numbers.Lists.{map_there}
 use Rattle.cloud_facts.specs.Book.Messages.{IsLogMessage}
-use Rattle.cloud_facts.specs.Words.{CommitAnswer, QueueName, Entry, AtomicRec, Ended, Posted, CloudState, Caller, Seen, Ends, IsIn, StandsAt}
+use Rattle.cloud_facts.specs.Words.{at, CommitAnswer, QueueName, Entry, AtomicRec, Ended, Posted, CloudState, Caller, Seen, Ends, IsIn, StandsAt}
 use Rattle.cloud_facts.specs.Book.Records.{entry_of, entries_of}
 use Rattle.cloud_trait.proofs.RowLemmas.{leaves_grown}
 use Rattle.cloud_trait.specs.Growth.{BeginsWith, HasGrown}
@@ -108,7 +108,7 @@ module _ (lines : List Line) (line : Line) (who : Caller) (wish : Wish) (before 
   held : CloudHolds (length lines + 1) lines (session_at old.sessions) old.audit old.blind s
   held = wish_holds (length lines + 1) lines (session_at old.sessions) old.audit old.blind way.after wish way.goes.holds
 
-  left : CallLeaves lines p.to (session_at old.sessions) who.session p.session.after new.audit new.blind
+  left : CallLeaves lines p.to (at who.session p.session.after (session_at old.sessions)) new.audit new.blind
   left = call lines who wish before after old new (Ended (answer.Commit (Committed txn))) number way p
 
   under : p.under.state ≡ Some s

@@ -142,20 +142,28 @@ sound_of who before after Closed new turn p = absurd p
 sound_of who before after (Idle home) new turn p = absurd p
 sound_of who before after (Broken lease) new turn p = absurd p
 
--- what a look before and after a put tells the audit, where neither failed
-pub record Sees (x : CloudState) (after : Seen) (w : Work) (a b : Audited) (blind blind_after : Bool) : Type 0 where
-  pub saw : blind_after ≡ false → blind ≡ false
-  pub audit : blind_after ≡ false → (y : CloudState) → after.state ≡ Some y → b ≡ audited (newest x) (newest y) w a
+-- what the audit took, and whether one of its looks failed
+pub record Lookout : Type 0 where
+  pub audit : Audited
+  pub blind : Bool
 
--- what a call of a session leaves, up to event n
-pub record CallLeavesUpto (n : ℕ) (lines : List Line) (after : Seen) (sessions : Sessions) (session : ℕ) (new : Acting) (b : Audited) (blind : Bool) : Type 0 where
+abbrev pub lookout : Audited → Bool → Lookout
+lookout audit blind = record { audit = audit; blind = blind }
+
+-- what a look before and after a put tells the audit, where neither failed
+pub record Sees (x : CloudState) (after : Seen) (w : Work) (old new : Lookout) : Type 0 where
+  pub saw : new.blind ≡ false → old.blind ≡ false
+  pub audit : new.blind ≡ false → (y : CloudState) → after.state ≡ Some y → new.audit ≡ audited (newest x) (newest y) w old.audit
+
+-- what a call leaves, with the sessions behind it, up to event n
+pub record CallLeavesUpto (n : ℕ) (lines : List Line) (after : Seen) (sessions : Sessions) (b : Audited) (blind : Bool) : Type 0 where
   pub state : CloudState
   pub told : after.state ≡ Some state
-  pub holds : CloudHolds n lines (at session new sessions) b blind state
+  pub holds : CloudHolds n lines sessions b blind state
 
 -- and within the line behind these
-abbrev pub CallLeaves : List Line → Seen → Sessions → ℕ → Acting → Audited → Bool → Type 0
-CallLeaves lines after sessions session new b blind = CallLeavesUpto (length lines + 1) lines after sessions session new b blind
+abbrev pub CallLeaves : List Line → Seen → Sessions → Audited → Bool → Type 0
+CallLeaves lines after sessions b blind = CallLeavesUpto (length lines + 1) lines after sessions b blind
 
 -- the call in hand commits what the lines say, and its row is of a kind that they allow
 pub record IsByLines (lines : List Line) (who : Caller) (w : Work) (ask : Ask) : Type 0 where
@@ -165,8 +173,8 @@ pub record IsByLines (lines : List Line) (who : Caller) (w : Work) (ask : Ask) :
 -- whatever is at work, where its call is so
 pub call_leaves : (n : ℕ) (lines : List Line) (who : Caller) (before after : Seen) (x : CloudState) (sessions : Sessions) (new : Acting) (turn : Turn Answer) (a b : Audited) (blind blind_after : Bool)
     → who.event ≤ n → before.state ≡ Some x → CloudHolds n lines sessions a blind x → ((ask : Ask) → ask_of_work (sessions who.session).work ≡ Some ask → IsByLines lines who (sessions who.session).work ask)
-    → StepsSession who before after (sessions who.session) new (Ok turn) → Sees x after (sessions who.session).work a b blind blind_after
-    → CallLeavesUpto n lines after sessions who.session new b blind_after
+    → StepsSession who before after (sessions who.session) new (Ok turn) → Sees x after (sessions who.session).work (lookout a blind) (lookout b blind_after)
+    → CallLeavesUpto n lines after (at who.session new sessions) b blind_after
 call_leaves n lines who before after x sessions new turn a b blind blind_after event told h by p sees =
     record { state = l.after; told = l.told; holds = holds }
   where
@@ -249,8 +257,8 @@ call_leaves n lines who before after x sessions new turn a b blind blind_after e
 -- a call of a session within a line
 pub call_holds : (lines : List Line) (who : Caller) (before after : Seen) (x : CloudState) (sessions : Sessions) (new : Acting) (turn : Turn Answer) (a b : Audited) (blind blind_after : Bool)
     → who.event ≡ length lines + 1 → before.state ≡ Some x → CloudHolds (length lines + 1) lines sessions a blind x → WorksAs (sessions who.session).work (standing lines who.session)
-    → StepsSession who before after (sessions who.session) new (Ok turn) → Sees x after (sessions who.session).work a b blind blind_after
-    → CallLeaves lines after sessions who.session new b blind_after
+    → StepsSession who before after (sessions who.session) new (Ok turn) → Sees x after (sessions who.session).work (lookout a blind) (lookout b blind_after)
+    → CallLeaves lines after (at who.session new sessions) b blind_after
 call_holds lines who before after x sessions new turn a b blind blind_after event told h acts p sees =
     call_leaves (length lines + 1) lines who before after x sessions new turn a b blind blind_after (omega (arith, event)) told h by p sees
   where
@@ -271,8 +279,8 @@ call_holds lines who before after x sessions new turn a b blind blind_after even
 -- a call of session 0 on an errand up to event n, where the line that asks it is one of the lines
 pub errand_holds : (errand : Errand) (n : ℕ) (lines : List Line) (who : Caller) (before after : Seen) (x : CloudState) (sessions : Sessions) (new : Acting) (turn : Turn Answer) (a b : Audited) (blind blind_after : Bool)
     → who.event ≤ n → before.state ≡ Some x → CloudHolds n lines sessions a blind x → WorksOn errand (sessions who.session).work → AreRowsOf errand lines who
-    → StepsSession who before after (sessions who.session) new (Ok turn) → Sees x after (sessions who.session).work a b blind blind_after
-    → CallLeavesUpto n lines after sessions who.session new b blind_after
+    → StepsSession who before after (sessions who.session) new (Ok turn) → Sees x after (sessions who.session).work (lookout a blind) (lookout b blind_after)
+    → CallLeavesUpto n lines after (at who.session new sessions) b blind_after
 errand_holds errand n lines who before after x sessions new turn a b blind blind_after event told h works own p sees =
     call_leaves n lines who before after x sessions new turn a b blind blind_after event told h by p sees
   where
@@ -299,8 +307,8 @@ errand_holds errand n lines who before after x sessions new turn a b blind blind
 -- a call of a checkpoint up to event n, where the line that works is one of the lines
 pub work_holds : (n : ℕ) (lines : List Line) (who : Caller) (home : Home) (before after : Seen) (x : CloudState) (sessions : Sessions) (new : Acting) (turn : Turn Answer) (a b : Audited) (blind blind_after : Bool)
     → who.event ≤ n → before.state ≡ Some x → CloudHolds n lines sessions a blind x → HasCheckpoint home (sessions who.session).work → IsWorkersRow lines who
-    → StepsSession who before after (sessions who.session) new (Ok turn) → Sees x after (sessions who.session).work a b blind blind_after
-    → CallLeavesUpto n lines after sessions who.session new b blind_after
+    → StepsSession who before after (sessions who.session) new (Ok turn) → Sees x after (sessions who.session).work (lookout a blind) (lookout b blind_after)
+    → CallLeavesUpto n lines after (at who.session new sessions) b blind_after
 work_holds n lines who home before after x sessions new turn a b blind blind_after event told h checkpoint worker p sees =
     call_leaves n lines who before after x sessions new turn a b blind blind_after event told h by p sees
   where

@@ -70,16 +70,15 @@ pub record CommitsNone (lines : List Line) (who : Caller) (w : Work) (ask : Ask)
   pub noted : (a : Audited) → (noted_at w ask a).committed ≡ a.committed
 
 -- it takes what the row commits, by the head that the bytes spell
-pub record CommitsHead (lines : List Line) (who : Caller) (w : Work) (client : ℕ) (bytes : List ℕ) (one : Claim) (two : Option Claim) : Type 0 where
+pub record CommitsHead (lines : List Line) (who : Caller) (w : Work) (bytes : List ℕ) (ask : Ask) : Type 0 where
   pub head : Head
   pub spells : head_of bytes ≡ Some head
-  pub noted : (a : Audited)
-      → (noted_at w (PutHeld (object.Head client) bytes one two) a).committed ≡ a.committed ++ put_entries lines who (PutHeld (object.Head client) bytes one two)
+  pub noted : (a : Audited) → (noted_at w ask a).committed ≡ a.committed ++ put_entries lines who ask
 
 -- one of both
 pub data CommitsAs (lines : List Line) (who : Caller) (w : Work) : Ask → Type 0 where
   none : (ask : Ask) → CommitsNone lines who w ask → CommitsAs lines who w ask
-  some : (client : ℕ) (bytes : List ℕ) (one : Claim) (two : Option Claim) → CommitsHead lines who w client bytes one two
+  some : (client : ℕ) (bytes : List ℕ) (one : Claim) (two : Option Claim) → CommitsHead lines who w bytes (PutHeld (object.Head client) bytes one two)
       → CommitsAs lines who w (PutHeld (object.Head client) bytes one two)
 
 no_head_row : (lines : List Line) (who : Caller) (ask : Ask) → LandsNoHead ask → put_entries lines who ask ≡ []

@@ -120,20 +120,21 @@ module _ (ask : Ask) (c d : Counts) (s t : CloudState) (old new : Work) (same : 
 -- ---- a session
 
 -- the call of a calm step, as it was explained
-pub record IsCalmly (ask : Ask) (c d : Counts) (s t : CloudState) (old new : Work) (turn : Turn Answer) : Type 0 where
+pub record IsCalmly (ask : Ask) (before after : Counts × CloudState) (old new : Work) (turn : Turn Answer) : Type 0 where
   pub hand : ask_of_work old ≡ Some ask
-  pub same : d ≡ c
-  pub free : TakesFree ask s t.now
-  pub lasting : NamesLasting ask t.now
-  pub returned : GivesBackLasting ask t.now
-  pub grown : HasGrown s t
-  pub explains : Explains ask (c, s) (d, t) old new turn
-  pub waits : trouble_in old ≡ None → left_in old ≡ 0 → (have need : ℕ) → Meets new turn (trouble.Waiting have need) → Rose c.withheld d.withheld ⊎ WaitsLate new turn t.now
+  pub same : after.0 ≡ before.0
+  pub free : TakesFree ask before.1 after.1.now
+  pub lasting : NamesLasting ask after.1.now
+  pub returned : GivesBackLasting ask after.1.now
+  pub grown : HasGrown before.1 after.1
+  pub explains : Explains ask before after old new turn
+  pub waits : trouble_in old ≡ None → left_in old ≡ 0 → (have need : ℕ) → Meets new turn (trouble.Waiting have need)
+      → Rose before.0.withheld after.0.withheld ⊎ WaitsLate new turn after.1.now
 
 same_ask : (a b : Ask) → Some a ≡ Some b → a ≡ b
 same_ask a b e = cc
 
-module _ (ask : Ask) (c d : Counts) (s t : CloudState) (old new : Work) (turn : Turn Answer) (calm : IsCalmly ask c d s t old new turn) (well : IsUntroubled s old) where
+module _ (ask : Ask) (c d : Counts) (s t : CloudState) (old new : Work) (turn : Turn Answer) (calm : IsCalmly ask (c, s) (d, t) old new turn) (well : IsUntroubled s old) where
   -- what waits gives back a lease that is over next: no calm call does
   none_late : GivesLateBack old s.now → ⊥
   none_late (l, is, over) = let lasts : Lasts t.now l = subst (λ a. GivesBackLasting a t.now) (same_ask ask (Release l) (sym calm.hand ∙ is)) calm.returned in ends lasts
@@ -203,7 +204,7 @@ excused t w (trouble.BadFence page expected found) none = tt
 excused t w (trouble.Loop page) none = tt
 
 module _ (ask : Ask) (c d : Counts) (s t : CloudState) (old new : Work) where
-  goes_untroubled : IsCalmly ask c d s t old new More → ((k : Trouble) → trouble_in new ≡ Some k → (what : Counter) → spent_for old t what → spent_for new t what) → IsUntroubled s old
+  goes_untroubled : IsCalmly ask (c, s) (d, t) old new More → ((k : Trouble) → trouble_in new ≡ Some k → (what : Counter) → spent_for old t what → spent_for new t what) → IsUntroubled s old
       → IsUntroubled t new
   goes_untroubled calm stays well = record { trouble = λ k is. on k is (trouble_in old) refl; left = no_left ask c d s t old new More calm well }
     where
@@ -220,7 +221,7 @@ module _ (ask : Ask) (c d : Counts) (s t : CloudState) (old new : Work) where
           none_new k is
           (subst (IsOfNoCall (spent_for old) t) (same_trouble j k (sym (calm.explains.kept j was) ∙ is)) (kept_none ask c d s t old new More calm well j was))
 
-  answers_untroubled : (a : Answer) → IsCalmly ask c d s t old new (Ended a) → IsUntroubled s old → (k : Trouble) → trouble_of_answer a ≡ Some k → IsOfNoCall (spent_for old) t k
+  answers_untroubled : (a : Answer) → IsCalmly ask (c, s) (d, t) old new (Ended a) → IsUntroubled s old → (k : Trouble) → trouble_of_answer a ≡ Some k → IsOfNoCall (spent_for old) t k
   answers_untroubled a calm well k is = on (trouble_in old) refl
     where
       kept : (j : Trouble) → trouble_in old ≡ Some j → KeepsTrouble new (Ended a) j → IsOfNoCall (spent_for old) t k
@@ -249,7 +250,7 @@ module _ (who : Caller) (before after : Seen) (old new : Acting) (turn : Turn An
   one : x.ask ≡ calm.ask
   one = same_ask x.ask calm.ask (sym x.hand ∙ calm.hand)
 
-  pub calmly : IsCalmly calm.ask before.counts after.counts s t old.work new.work turn
+  pub calmly : IsCalmly calm.ask (before.counts, s) (after.counts, t) old.work new.work turn
   calmly = record {
     hand = calm.hand;
     same = calm.calm.counts;

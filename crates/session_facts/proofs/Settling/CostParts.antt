@@ -20,8 +20,8 @@ use Rattle.recover_run.specs.Gathering.{count_of}
 use Rattle.recover_run.specs.Ids.{has_id, new_ids}
 use Rattle.recover_run.specs.Recovery.{Recovery}
 use Rattle.session_facts.proofs.Settling.Along.{Each, Handed, Hands, behind_part}
-use Rattle.session_facts.proofs.Settling.Costs.{Need, no_need, needs, nothing, Spent, takes, moves, tree_over, all_within, Recovering, trees_begin}
-use Rattle.session_facts.proofs.Settling.Frames.{IsPending, ClientKeeps, QueueKeeps, ran_keeps}
+use Rattle.session_facts.proofs.Settling.Costs.{frontier, Need, no_need, needs, nothing, Spent, takes, moves, tree_over, all_within, Recovering, trees_begin}
+use Rattle.session_facts.proofs.Settling.Frames.{stock_of, IsPending, ClientKeeps, QueueKeeps, ran_keeps}
 use Rattle.session_facts.proofs.Settling.LeftParts.{IsDelivered, IsOfTree, works_tree, page_zero, left_hands}
 use Rattle.session_facts.proofs.Settling.Lefts.{LeftAt, Left, NothingWaits, again_left, left_again}
 use Rattle.session_facts.proofs.Settling.Queues.{none_told, some_told}
@@ -87,10 +87,10 @@ LogsRest upto s = (k : ℕ) → IsClient k → k < upto → waiting s (queue.Ato
 abbrev CostAt : CloudState → Part → List ℕ → ℕ → Moment → Type 0
 CostAt begin (Client client r) visited calls m = LogsRest client m.state × Recovering begin client calls m.state
 CostAt begin (Tree tree r) visited calls m =
-    LogsRest 65 m.state × Spent begin tree (needs (length (waiting m.state (queue.TreePu tree))) tree) (own_tree tree) (RestTree tree) calls m.state
+    LogsRest 65 m.state × Spent begin (frontier tree (needs (length (waiting m.state (queue.TreePu tree))) tree) (own_tree tree) (RestTree tree)) calls m.state
 CostAt begin (Page tree page r) visited calls m =
     LogsRest 65 m.state
-    × Spent begin tree (needs (length (waiting m.state (queue.PagePu tree page))) tree) (own_pages tree visited) (RestPages tree visited) calls m.state
+    × Spent begin (frontier tree (needs (length (waiting m.state (queue.PagePu tree page))) tree) (own_pages tree visited) (RestPages tree visited)) calls m.state
 
 abbrev pub Cost : CloudState → Settling → Moment → Type 0
 Cost begin s m = CostAt begin s.part s.visited s.calls m
@@ -162,7 +162,7 @@ again_client m w works = on w (part_known m w works)
 -- ---- what a checkpoint leaves
 
 module _ (own : Bool) (tree : ℕ) (q : QueueName) (first last : Moment)
-    (keeps : QueueKeeps own tree q first.state.versions last.state.versions first.state.messages last.state.messages) where
+    (keeps : QueueKeeps own tree q (stock_of first.state) (stock_of last.state)) where
   logs_stay : ((k : ℕ) → q ≡ queue.Atomic k → ⊥) → LogsRest 65 first.state → LogsRest 65 last.state
   logs_stay other rest k is less = ap unmarked (keeps.queues (queue.Atomic k) (other k)) ∙ rest k is less
 
@@ -196,7 +196,7 @@ module _ (begin : CloudState) (trees : TreesRun) (pages : PagesRun) (clients : R
     recovered : RecoveryRun client h first last
     recovered = clients client r h first last ran
 
-    client_keeps : ClientKeeps client first.state.versions last.state.versions first.state.messages last.state.messages
+    client_keeps : ClientKeeps client (stock_of first.state) (stock_of last.state)
     client_keeps = ran_keeps (Client client r) h first last ran
 
     client_logs : LogsRest (client + 1) last.state
@@ -260,7 +260,7 @@ module _ (begin : CloudState) (trees : TreesRun) (pages : PagesRun) (clients : R
     tree_drains : Drains (queue.TreePu tree) r.received first.state last.state
     tree_drains = tree_run.drains delivered
 
-    tree_keeps : QueueKeeps true tree (queue.TreePu tree) first.state.versions last.state.versions first.state.messages last.state.messages
+    tree_keeps : QueueKeeps true tree (queue.TreePu tree) (stock_of first.state) (stock_of last.state)
     tree_keeps = ran_keeps (Tree tree r) h first last ran
 
     tree_logs : LogsRest 65 last.state
@@ -268,7 +268,7 @@ module _ (begin : CloudState) (trees : TreesRun) (pages : PagesRun) (clients : R
 
     tree_moves : (less : (ℕ → ℕ) → ℕ)
         → ((pages : ℕ → ℕ) → next_page last.state tree ≤ pages tree + 1 → length h + less pages ≤ needs (length (waiting first.state (queue.TreePu tree))) tree pages)
-        → Spent begin tree less (own_tree tree) (RestTree tree) s.calls last.state
+        → Spent begin (frontier tree less (own_tree tree) (RestTree tree)) s.calls last.state
     tree_moves less step =
         moves begin tree (needs (length (waiting first.state (queue.TreePu tree))) tree) less (own_tree tree) (RestTree tree) calls s.calls first.state last.state
         (λ q rest. waiting_stays true tree (queue.TreePu tree) first last tree_keeps q (λ e. itself (subst (RestTree tree) (sym e) rest)))
@@ -321,7 +321,7 @@ module _ (begin : CloudState) (trees : TreesRun) (pages : PagesRun) (clients : R
     page_drains : Drains (queue.PagePu tree page) r.received first.state last.state
     page_drains = page_run.drains delivered
 
-    page_keeps : QueueKeeps false tree (queue.PagePu tree page) first.state.versions last.state.versions first.state.messages last.state.messages
+    page_keeps : QueueKeeps false tree (queue.PagePu tree page) (stock_of first.state) (stock_of last.state)
     page_keeps = ran_keeps (Page tree page r) h first last ran
 
     page_logs : LogsRest 65 last.state
@@ -329,7 +329,7 @@ module _ (begin : CloudState) (trees : TreesRun) (pages : PagesRun) (clients : R
 
     page_moves : (less : (ℕ → ℕ) → ℕ)
         → ((counts : ℕ → ℕ) → next_page last.state tree ≤ counts tree + 1 → length h + less counts ≤ needs (length (waiting first.state (queue.PagePu tree page))) tree counts)
-        → Spent begin tree less (own_pages tree s.visited) (RestPages tree s.visited) s.calls last.state
+        → Spent begin (frontier tree less (own_pages tree s.visited) (RestPages tree s.visited)) s.calls last.state
     page_moves less step =
         moves begin tree (needs (length (waiting first.state (queue.PagePu tree page))) tree) less (own_pages tree s.visited) (RestPages tree s.visited) calls s.calls
         first.state last.state
@@ -342,7 +342,7 @@ module _ (begin : CloudState) (trees : TreesRun) (pages : PagesRun) (clients : R
         itself rest = rest.1 refl left.1.1.1.here
 
     -- behind a checkpoint that received nothing new
-    page_spent : new_ids s.known r.received ≡ [] → Spent begin tree nothing (own_pages tree s.visited) (RestPages tree s.visited) s.calls last.state
+    page_spent : new_ids s.known r.received ≡ [] → Spent begin (frontier tree nothing (own_pages tree s.visited) (RestPages tree s.visited)) s.calls last.state
     page_spent e =
         let none : length r.received ≡ 0 = ap length (none_told (queue.PagePu tree page) s.known r.received first.state last.state left.1.1.0 page_drains e) in
         page_moves nothing
@@ -355,7 +355,7 @@ module _ (begin : CloudState) (trees : TreesRun) (pages : PagesRun) (clients : R
         subst (LeadAlong (right_at last.state tree) 1 s.visited) (page_run.right ∙ page_zero r.home.right e)
         (subst (λ (right : ℕ → ℕ). LeadAlong right 1 s.visited (right page)) (λ i p. (sym (page_run.rights p)) i) left.1.1.1.leads)
 
-    next_tree : new_ids s.known r.received ≡ [] → page_at r.home.right ≡ None → Spent begin (tree + 1) nothing no_need (RestFrom (tree + 1)) s.calls last.state
+    next_tree : new_ids s.known r.received ≡ [] → page_at r.home.right ≡ None → Spent begin (frontier (tree + 1) nothing no_need (RestFrom (tree + 1))) s.calls last.state
     next_tree none e = tree_over begin tree s.visited (RestPages tree s.visited) (RestFrom (tree + 1)) s.calls last.state is_tree later (leaf_pages e) (page_spent none)
       where
         later : (x : QueueName) → RestFrom (tree + 1) x → RestPages tree s.visited x

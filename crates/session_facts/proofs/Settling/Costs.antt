@@ -44,22 +44,33 @@ needs waited t pages = queue_calls waited (pages t)
 abbrev pub nothing : (ℕ → ℕ) → ℕ
 nothing pages = 0
 
+-- how far it has come: the tree at work, what its queue at work still needs, what was begun of the tree, and the queues of which nothing was
+-- received
+pub record Frontier : Type 1 where
+  pub tree : ℕ
+  pub extra : (ℕ → ℕ) → ℕ
+  pub own : Need
+  pub rest : QueueName → Type 0
+
+abbrev pub frontier : ℕ → ((ℕ → ℕ) → ℕ) → Need → (QueueName → Type 0) → Frontier
+frontier tree extra own rest = record { tree = tree; extra = extra; own = own; rest = rest }
+
 -- So many calls were made: with what the queue at work still needs they are no more than what the clients, the trees below this one and what
--- was begun of this tree need. Of the rest of the queues nothing was received.
-pub record Spent (begin : CloudState) (t : ℕ) (extra : (ℕ → ℕ) → ℕ) (own : Need) (rest : QueueName → Type 0) (calls : ℕ) (s : CloudState) : Type 0 where
+-- was begun of this tree need.
+pub record Spent (begin : CloudState) (at : Frontier) (calls : ℕ) (s : CloudState) : Type 0 where
   pub leaves : ℕ → List ℕ
-  pub are : (k : ℕ) → IsTree k → k < t → AreLeafPages s k (leaves k)
-  pub sends : (q : QueueName) → rest q → Sends begin s q
+  pub are : (k : ℕ) → IsTree k → k < at.tree → AreLeafPages s k (leaves k)
+  pub sends : (q : QueueName) → at.rest q → Sends begin s q
   pub longer : (q : QueueName) → length (begin.messages q) ≤ length (s.messages q)
-  pub few : (n : ℕ) → t ≡ n + 1 → (messages : QueueName → ℕ) (pages : ℕ → ℕ) → Fits begin messages pages s
-      → calls + extra pages ≤ all_clients begin + (trees_calls messages pages leaves n + own messages pages)
+  pub few : (n : ℕ) → at.tree ≡ n + 1 → (messages : QueueName → ℕ) (pages : ℕ → ℕ) → Fits begin messages pages s
+      → calls + at.extra pages ≤ all_clients begin + (trees_calls messages pages leaves n + at.own messages pages)
 
 -- ---- a checkpoint
 
 -- a queue of the rest begins
 pub takes : (begin : CloudState) (t : ℕ) (own more : Need) (rest fewer : QueueName → Type 0) (calls : ℕ) (s : CloudState) (q : QueueName) → IsPending q → rest q
     → ((messages : QueueName → ℕ) (pages : ℕ → ℕ) → more messages pages ≡ own messages pages + queue_calls (messages q) (pages t)) → ((x : QueueName) → fewer x → rest x)
-    → Spent begin t nothing own rest calls s → Spent begin t (needs (length (waiting s q)) t) more fewer calls s
+    → Spent begin (frontier t nothing own rest) calls s → Spent begin (frontier t (needs (length (waiting s q)) t) more fewer) calls s
 takes begin t own more rest fewer calls s q pending is needs_more within spent = record {
   leaves = spent.leaves;
   are = spent.are;
@@ -80,7 +91,7 @@ pub moves : (begin : CloudState) (t : ℕ) (extra less : (ℕ → ℕ) → ℕ) 
     → ((q : QueueName) → rest q → waiting last q ≡ waiting first q) → ((q : QueueName) → length (last.messages q) ≡ length (first.messages q))
     → ((k : ℕ) → next_page first k ≤ next_page last k) → ((k : ℕ) → k < t → right_at first k ≡ right_at last k)
     → ((pages : ℕ → ℕ) → next_page last t ≤ pages t + 1 → more + less pages ≤ calls + extra pages)
-    → Spent begin t extra own rest calls first → Spent begin t less own rest more last
+    → Spent begin (frontier t extra own rest) calls first → Spent begin (frontier t less own rest) more last
 moves begin t extra less own rest calls more first last same counts nexts rights step spent = record {
   leaves = spent.leaves;
   are = λ k is below. let h = spent.are k is below in
@@ -108,7 +119,7 @@ moves begin t extra less own rest calls more first last same counts nexts rights
 
 module _ (begin : CloudState) (t : ℕ) (visited : List ℕ) (rest fewer : QueueName → Type 0) (calls : ℕ) (s : CloudState) (is_tree : IsTree t)
     (within : (x : QueueName) → fewer x → rest x) (are : AreLeafPages s t visited)
-    (spent : Spent begin t nothing (λ messages pages. tree_calls messages (pages t) t visited) rest calls s) where
+    (spent : Spent begin (frontier t nothing (λ messages pages. tree_calls messages (pages t) t visited) rest) calls s) where
   abbrev leaves : ℕ → List ℕ
   leaves = at t visited spent.leaves
 
@@ -131,7 +142,7 @@ module _ (begin : CloudState) (t : ℕ) (visited : List ℕ) (rest fewer : Queue
       close : (calls clients a b c d e : ℕ) → calls + 0 ≤ clients + (a + b) → d ≡ b → c ≡ a → e ≡ c + d → calls + 0 ≤ clients + (e + 0)
       close calls clients a b c d e was last others sum = omega (arith, was, last, others, sum)
 
-  pub tree_over : Spent begin (t + 1) nothing no_need fewer calls s
+  pub tree_over : Spent begin (frontier (t + 1) nothing no_need fewer) calls s
   tree_over = record {
     leaves = leaves;
     are = λ k is below. at_tree k is below (cases_eq k t);
@@ -146,7 +157,7 @@ module _ (begin : CloudState) (t : ℕ) (visited : List ℕ) (rest fewer : Queue
 
 -- ---- the end
 
-pub all_within : (begin s : CloudState) (rest : QueueName → Type 0) (t calls : ℕ) → 17 ≤ t → t ≤ 17 → Spent begin t nothing no_need rest calls s → SettlesWithin begin s calls
+pub all_within : (begin s : CloudState) (rest : QueueName → Type 0) (t calls : ℕ) → 17 ≤ t → t ≤ 17 → Spent begin (frontier t nothing no_need rest) calls s → SettlesWithin begin s calls
 all_within begin s rest t calls low high spent = record {
   leaves = spent.leaves;
   are = are;
@@ -186,7 +197,7 @@ pub record Recovering (begin : CloudState) (client calls : ℕ) (s : CloudState)
   pub longer : (q : QueueName) → length (begin.messages q) ≤ length (s.messages q)
 
 -- behind the last client the first tree begins
-pub trees_begin : (begin s : CloudState) (client calls : ℕ) → client ≡ 65 → Recovering begin client calls s → Spent begin 1 nothing no_need IsPending calls s
+pub trees_begin : (begin s : CloudState) (client calls : ℕ) → client ≡ 65 → Recovering begin client calls s → Spent begin (frontier 1 nothing no_need IsPending) calls s
 trees_begin begin s client calls e spent = record {
   leaves = λ k. [];
   are = λ k is below. let some = is.some in absurd (omega (arith, below, some));

@@ -185,21 +185,33 @@ module _ (tree : ℕ) where
 
 -- ---- states
 
+-- what is in a cloud: its objects and its messages
+pub record Stock : Type 0 where
+  pub objects : ObjName → List Version
+  pub messages : QueueName → List Posted
+
+abbrev pub stock : (ObjName → List Version) → (QueueName → List Posted) → Stock
+stock objects messages = record { objects = objects; messages = messages }
+
+abbrev pub stock_of : CloudState → Stock
+stock_of s = stock s.versions s.messages
+
 -- what a client's recovery leaves: the other heads, the other ATOMIC queues, and every mark in pending update queues, where each message that
 -- is sent is unmarked
-pub record ClientKeeps (client : ℕ) (f g : ObjName → List Version) (p q : QueueName → List Posted) : Type 0 where
-  pub heads : (k : ℕ) → (client ≡ k → ⊥) → g (object.Head k) ≡ f (object.Head k)
-  pub logs : (k : ℕ) → (client ≡ k → ⊥) → q (queue.Atomic k) ≡ p (queue.Atomic k)
-  pub sends : (x : QueueName) → IsPending x → length (unmarked (q x)) + length (p x) ≡ length (unmarked (p x)) + length (q x)
-  pub longer : (x : QueueName) → length (p x) ≤ length (q x)
+pub record ClientKeeps (client : ℕ) (old new : Stock) : Type 0 where
+  pub heads : (k : ℕ) → (client ≡ k → ⊥) → new.objects (object.Head k) ≡ old.objects (object.Head k)
+  pub logs : (k : ℕ) → (client ≡ k → ⊥) → new.messages (queue.Atomic k) ≡ old.messages (queue.Atomic k)
+  pub sends : (x : QueueName) → IsPending x
+      → length (unmarked (new.messages x)) + length (old.messages x) ≡ length (unmarked (old.messages x)) + length (new.messages x)
+  pub longer : (x : QueueName) → length (old.messages x) ≤ length (new.messages x)
 
 -- what a checkpoint of a queue leaves: all heads, the objects of other trees, all other queues, and the length of its own
-pub record QueueKeeps (own : Bool) (tree : ℕ) (own_queue : QueueName) (f g : ObjName → List Version) (p q : QueueName → List Posted) : Type 0 where
-  pub heads : (k : ℕ) → g (object.Head k) ≡ f (object.Head k)
-  pub roots : (k : ℕ) → (own ≡ true → tree ≡ k → ⊥) → g (object.Tree k) ≡ f (object.Tree k)
-  pub pages : (k page : ℕ) → (tree ≡ k → ⊥) → g (object.Page k page) ≡ f (object.Page k page)
-  pub queues : (x : QueueName) → (own_queue ≡ x → ⊥) → q x ≡ p x
-  pub counts : (x : QueueName) → length (q x) ≡ length (p x)
+pub record QueueKeeps (own : Bool) (tree : ℕ) (own_queue : QueueName) (old new : Stock) : Type 0 where
+  pub heads : (k : ℕ) → new.objects (object.Head k) ≡ old.objects (object.Head k)
+  pub roots : (k : ℕ) → (own ≡ true → tree ≡ k → ⊥) → new.objects (object.Tree k) ≡ old.objects (object.Tree k)
+  pub pages : (k page : ℕ) → (tree ≡ k → ⊥) → new.objects (object.Page k page) ≡ old.objects (object.Page k page)
+  pub queues : (x : QueueName) → (own_queue ≡ x → ⊥) → new.messages x ≡ old.messages x
+  pub counts : (x : QueueName) → length (new.messages x) ≡ length (old.messages x)
 
 -- a name keeps what another one is given
 object_keeps : (f : ObjName → List Version) (k : ObjName) (v : List Version) (x : ObjName) → (k ≡ x → ⊥) → put_at object_cmp f k v x ≡ f x
@@ -231,10 +243,10 @@ marked_length ms id = on (id == 0)
     on false = mark_at_length ms (id - 1)
 
 module _ (f : ObjName → List Version) (p : QueueName → List Posted) where
-  client_same : (client : ℕ) → ClientKeeps client f f p p
+  client_same : (client : ℕ) → ClientKeeps client (stock f p) (stock f p)
   client_same client = record { heads = λ k other. refl; logs = λ k other. refl; sends = λ x is. refl; longer = λ x. omega arith }
 
-  client_puts : (client : ℕ) (bytes : List Version) → ClientKeeps client f (put_at object_cmp f (object.Head client) bytes) p p
+  client_puts : (client : ℕ) (bytes : List Version) → ClientKeeps client (stock f p) (stock (put_at object_cmp f (object.Head client) bytes) p)
   client_puts client bytes = record {
     heads = λ k other. object_keeps f (object.Head client) bytes (object.Head k) (λ e. other (cc (e)));
     logs = λ k other. refl;
@@ -242,7 +254,7 @@ module _ (f : ObjName → List Version) (p : QueueName → List Posted) where
     longer = λ x. omega arith;
   }
 
-  client_sends : (client : ℕ) (to : QueueName) (m : Posted) → m.deleted ≡ false → IsPending to → ClientKeeps client f f p (put_at queue_cmp p to (p to ++ m ∷ []))
+  client_sends : (client : ℕ) (to : QueueName) (m : Posted) → m.deleted ≡ false → IsPending to → ClientKeeps client (stock f p) (stock f (put_at queue_cmp p to (p to ++ m ∷ [])))
   client_sends client to m new is = record {
     heads = λ k other. refl;
     logs = λ k other. queue_keeps p to (p to ++ m ∷ []) (queue.Atomic k) (λ e. subst IsPending e is);
@@ -258,7 +270,7 @@ module _ (f : ObjName → List Version) (p : QueueName → List Posted) where
         (λ y. omega arith) x;
   }
 
-  client_marks : (client id : ℕ) → ClientKeeps client f f p (put_at queue_cmp p (queue.Atomic client) (marked (p (queue.Atomic client)) id))
+  client_marks : (client id : ℕ) → ClientKeeps client (stock f p) (stock f (put_at queue_cmp p (queue.Atomic client) (marked (p (queue.Atomic client)) id)))
   client_marks client id = record {
     heads = λ k other. refl;
     logs = λ k other. queue_keeps p (queue.Atomic client) _ (queue.Atomic k) (λ e. other (cc (e)));
@@ -272,11 +284,11 @@ module _ (f : ObjName → List Version) (p : QueueName → List Posted) where
         (λ y. omega arith) x;
   }
 
-  queue_same : (own : Bool) (tree : ℕ) (own_queue : QueueName) → QueueKeeps own tree own_queue f f p p
+  queue_same : (own : Bool) (tree : ℕ) (own_queue : QueueName) → QueueKeeps own tree own_queue (stock f p) (stock f p)
   queue_same own tree own_queue = record { heads = λ k. refl; roots = λ k other. refl; pages = λ k page other. refl; queues = λ x other. refl; counts = λ x. refl }
 
   queue_puts_root : (own : Bool) (tree : ℕ) (own_queue : QueueName) (v : List Version) → own ≡ true
-      → QueueKeeps own tree own_queue f (put_at object_cmp f (object.Tree tree) v) p p
+      → QueueKeeps own tree own_queue (stock f p) (stock (put_at object_cmp f (object.Tree tree) v) p)
   queue_puts_root own tree own_queue v is = record {
     heads = λ k. object_keeps f (object.Tree tree) v (object.Head k) (λ e. cc (e));
     roots = λ k other. object_keeps f (object.Tree tree) v (object.Tree k) (λ e. other is (cc (e)));
@@ -286,7 +298,7 @@ module _ (f : ObjName → List Version) (p : QueueName → List Posted) where
   }
 
   queue_puts_page : (own : Bool) (tree page : ℕ) (own_queue : QueueName) (v : List Version)
-      → QueueKeeps own tree own_queue f (put_at object_cmp f (object.Page tree page) v) p p
+      → QueueKeeps own tree own_queue (stock f p) (stock (put_at object_cmp f (object.Page tree page) v) p)
   queue_puts_page own tree page own_queue v = record {
     heads = λ k. object_keeps f (object.Page tree page) v (object.Head k) (λ e. cc (e));
     roots = λ k other. object_keeps f (object.Page tree page) v (object.Tree k) (λ e. cc (e));
@@ -296,7 +308,7 @@ module _ (f : ObjName → List Version) (p : QueueName → List Posted) where
   }
 
   queue_marks : (own : Bool) (tree : ℕ) (own_queue : QueueName) (id : ℕ)
-      → QueueKeeps own tree own_queue f f p (put_at queue_cmp p own_queue (marked (p own_queue) id))
+      → QueueKeeps own tree own_queue (stock f p) (stock f (put_at queue_cmp p own_queue (marked (p own_queue) id)))
   queue_marks own tree own_queue id = record {
     heads = λ k. refl;
     roots = λ k other. refl;
@@ -307,10 +319,10 @@ module _ (f : ObjName → List Version) (p : QueueName → List Posted) where
   }
 
 abbrev ClientStates : ℕ → CloudState → CloudState → Type 0
-ClientStates client s t = ClientKeeps client s.versions t.versions s.messages t.messages
+ClientStates client s t = ClientKeeps client (stock_of s) (stock_of t)
 
 abbrev QueueStates : Bool → ℕ → QueueName → CloudState → CloudState → Type 0
-QueueStates own tree own_queue s t = QueueKeeps own tree own_queue s.versions t.versions s.messages t.messages
+QueueStates own tree own_queue s t = QueueKeeps own tree own_queue (stock_of s) (stock_of t)
 
 -- ---- effects
 
@@ -358,9 +370,9 @@ queue_effect own tree own_queue who (Release l) s is =
 
 -- what a part leaves, by its place
 abbrev pub PartKeeps : Part → CloudState → CloudState → Type 0
-PartKeeps (Client client m) s t = ClientKeeps client s.versions t.versions s.messages t.messages
-PartKeeps (Tree tree m) s t = QueueKeeps true tree (queue.TreePu tree) s.versions t.versions s.messages t.messages
-PartKeeps (Page tree page m) s t = QueueKeeps false tree (queue.PagePu tree page) s.versions t.versions s.messages t.messages
+PartKeeps (Client client m) s t = ClientKeeps client (stock_of s) (stock_of t)
+PartKeeps (Tree tree m) s t = QueueKeeps true tree (queue.TreePu tree) (stock_of s) (stock_of t)
+PartKeeps (Page tree page m) s t = QueueKeeps false tree (queue.PagePu tree page) (stock_of s) (stock_of t)
 
 abbrev OfPart : Part → Ask → Type 0
 OfPart (Client client m) ask = OfClient client ask
@@ -402,7 +414,7 @@ turn_keeps d w from to turn =
     call_keeps w d.who (part_ask w) d.answer from.state to.state
     (part_of _ from.state.now w (from.stand.parts 0) (turn_known d w from to turn)) (turn_asks d w from to turn)
 
-client_then : (client : ℕ) (f g h : ObjName → List Version) (p q r : QueueName → List Posted) → ClientKeeps client f g p q → ClientKeeps client g h q r → ClientKeeps client f h p r
+client_then : (client : ℕ) (f g h : ObjName → List Version) (p q r : QueueName → List Posted) → ClientKeeps client (stock f p) (stock g q) → ClientKeeps client (stock g q) (stock h r) → ClientKeeps client (stock f p) (stock h r)
 client_then client f g h p q r a b = record {
   heads = λ k other. b.heads k other ∙ a.heads k other;
   logs = λ k other. b.logs k other ∙ a.logs k other;
@@ -410,8 +422,8 @@ client_then client f g h p q r a b = record {
   longer = λ x. let one = a.longer x in let two = b.longer x in omega (arith, one, two);
 }
 
-queue_then : (own : Bool) (tree : ℕ) (own_queue : QueueName) (f g h : ObjName → List Version) (p q r : QueueName → List Posted) → QueueKeeps own tree own_queue f g p q
-    → QueueKeeps own tree own_queue g h q r → QueueKeeps own tree own_queue f h p r
+queue_then : (own : Bool) (tree : ℕ) (own_queue : QueueName) (f g h : ObjName → List Version) (p q r : QueueName → List Posted) → QueueKeeps own tree own_queue (stock f p) (stock g q)
+    → QueueKeeps own tree own_queue (stock g q) (stock h r) → QueueKeeps own tree own_queue (stock f p) (stock h r)
 queue_then own tree own_queue f g h p q r a b = record {
   heads = λ k. b.heads k ∙ a.heads k;
   roots = λ k other. b.roots k other ∙ a.roots k other;

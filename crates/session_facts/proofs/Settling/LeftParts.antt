@@ -16,7 +16,7 @@ use Rattle.page_ckpt.specs.Paging.{Paging}
 use Rattle.recover_run.specs.Ids.{new_ids}
 use Rattle.recover_run.specs.Recovery.{Recovery}
 use Rattle.session_facts.proofs.Settling.Along.{Each, Handed, Hands, behind_part}
-use Rattle.session_facts.proofs.Settling.Frames.{ClientKeeps, QueueKeeps, ran_keeps}
+use Rattle.session_facts.proofs.Settling.Frames.{stock_of, ClientKeeps, QueueKeeps, ran_keeps}
 use Rattle.session_facts.proofs.Settling.Lefts.{HeadsRest, NoneWaits, TreesRest, PagesRest, LeftAt, Left, NothingWaits, again_left, left_again, leads_more, tree_rests}
 use Rattle.session_facts.proofs.Settling.Queues.{none_received, none_left, news_left}
 use Rattle.session_facts.proofs.Settling.Stories.{part_known}
@@ -85,7 +85,7 @@ pub head_stays : (first last : Moment) (k : ℕ) → last.state.versions (object
 head_stays first last k same settled = ap (λ (vs : List Version). (last_or empty_head (map head_in vs)).phase) same ∙ settled
 
 module _ (own : Bool) (tree : ℕ) (q : QueueName) (first last : Moment)
-    (keeps : QueueKeeps own tree q first.state.versions last.state.versions first.state.messages last.state.messages) where
+    (keeps : QueueKeeps own tree q (stock_of first.state) (stock_of last.state)) where
   heads_stay : HeadsRest 65 first → HeadsRest 65 last
   heads_stay rest k is less = head_stays first last k (keeps.heads k) (rest k is less)
 
@@ -121,7 +121,7 @@ module _ (trees : TreesRun) (pages : PagesRun) (clients : RecoveriesRun) (h : Li
       run : RecoveryRun client h first last
       run = clients client r h first last ran
 
-      keeps : ClientKeeps client first.state.versions last.state.versions first.state.messages last.state.messages
+      keeps : ClientKeeps client (stock_of first.state) (stock_of last.state)
       keeps = ran_keeps (Client client r) h first last ran
 
       by : (client ≡ k) ⊎ (client ≢ k) → ((store_at last).tally.head k).phase ≡ Settled
@@ -135,7 +135,7 @@ module _ (trees : TreesRun) (pages : PagesRun) (clients : RecoveriesRun) (h : Li
     drains : Drains (queue.TreePu tree) r.received first.state last.state
     drains = run.drains delivered
 
-    keeps : QueueKeeps true tree (queue.TreePu tree) first.state.versions last.state.versions first.state.messages last.state.messages
+    keeps : QueueKeeps true tree (queue.TreePu tree) (stock_of first.state) (stock_of last.state)
     keeps = ran_keeps (Tree tree r) h first last ran
 
     heads : HeadsRest 65 last
@@ -171,7 +171,7 @@ module _ (trees : TreesRun) (pages : PagesRun) (clients : RecoveriesRun) (h : Li
     page_drains : Drains (queue.PagePu tree page) r.received first.state last.state
     page_drains = page_run.drains delivered
 
-    page_keeps : QueueKeeps false tree (queue.PagePu tree page) first.state.versions last.state.versions first.state.messages last.state.messages
+    page_keeps : QueueKeeps false tree (queue.PagePu tree page) (stock_of first.state) (stock_of last.state)
     page_keeps = ran_keeps (Page tree page r) h first last ran
 
     page_heads : HeadsRest 65 last

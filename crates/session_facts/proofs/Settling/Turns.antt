@@ -7,6 +7,7 @@ use Rattle.client_work.specs.declared.answer.Answer.TheVariants as answer
 use Rattle.client_work.specs.declared.shown.Shown.{Shown}
 use Rattle.client_work.specs.declared.work.Work.{Work}
 use Rattle.client_work.specs.declared.work.Work.TheVariants as work
+use Rattle.cloud_trait.specs.Machine.{Occasion, occasion_of}
 use Rattle.cloud_facts.specs.Words.{Entry, Answer as Reply, Turn, More, Ended, CloudState, called, Caller, Seen, Goes, Ends, Deed, Book, at}
 use Rattle.cloud_trait.proofs.RowLemmas.{row_rest}
 use Rattle.cloud_trait.specs.State.{Counts}
@@ -42,21 +43,21 @@ Led m reply new More = (n : Settling) × (SettleLeads m reply (Goes n) × (new �
 Led m reply new (Ended (answer.Settled x)) = (n : Settling) × SettleLeads m reply (Ends n x)
 Led m reply new turn = Unit {0}
 
-abbrev IsStep : Caller → Seen → Seen → Settling → Reply → Work → Turn Answer → Type 0
-IsStep who before after m reply new turn = Makes who (settle_ask m) reply before after × Led m reply new turn
+abbrev IsStep : Occasion → Settling → Reply → Work → Turn Answer → Type 0
+IsStep on m reply new turn = Makes on.who (settle_ask m) reply on.before on.after × Led m reply new turn
 
 same_settling : (k m : Settling) → work.Settling k ≡ work.Settling m → k ≡ m
 same_settling k m e = cc (e)
 
 stepped : (who : Caller) (before after : Seen) (buffer : List Noted) (old : Work) (c d : Cache) (new : Work) (shown : Shown) (turn : Turn Answer)
     → (p : StepsAt who before after old new turn) → (q : ShowsAt who before after (old, c) (acting_of buffer new d shown) turn) → (m : Settling) → old ≡ work.Settling m
-    → IsStep who before after m (reply_at (calling_of who before after) (old, c) (acting_of buffer new d shown) turn p q) new turn
+    → IsStep (occasion_of who before after) m (reply_at (calling_of who before after) (old, c) (acting_of buffer new d shown) turn p q) new turn
 stepped who before after buffer (work.Settling k) c d new shown More p q m e =
-    subst (λ (x : Settling). IsStep who before after x p.1.1.did.answer new More) (same_settling k m e) (p.1.1.did.made, (p.1.0, (p.1.1.did.took, p.1.2)))
+    subst (λ (x : Settling). IsStep (occasion_of who before after) x p.1.1.did.answer new More) (same_settling k m e) (p.1.1.did.made, (p.1.0, (p.1.1.did.took, p.1.2)))
 stepped who before after buffer (work.Settling k) c d new shown (Ended (answer.Settled x)) p q m e =
-    subst (λ (y : Settling). IsStep who before after y p.1.1.did.answer new (Ended (answer.Settled x))) (same_settling k m e) (p.1.1.did.made, (p.1.0, p.1.1.did.took))
+    subst (λ (y : Settling). IsStep (occasion_of who before after) y p.1.1.did.answer new (Ended (answer.Settled x))) (same_settling k m e) (p.1.1.did.made, (p.1.0, p.1.1.did.took))
 stepped who before after buffer (work.Settling k) c d new shown (Ended (answer.Trouble t)) p q m e =
-    subst (λ (y : Settling). IsStep who before after y p.1.1.did.answer new (Ended (answer.Trouble t))) (same_settling k m e) (p.1.1.did.made, tt)
+    subst (λ (y : Settling). IsStep (occasion_of who before after) y p.1.1.did.answer new (Ended (answer.Trouble t))) (same_settling k m e) (p.1.1.did.made, tt)
 stepped who before after buffer (work.Settling k) c d new shown turn p q m e = absurd p.1
 stepped who before after buffer (work.Sweeping k) c d new shown turn p q m e = absurd (cc (e))
 stepped who before after buffer (work.Opening r) c d new shown turn p q m e = absurd (cc (e))
@@ -140,7 +141,7 @@ module _ (B : Settling → Moment → Type 0) (E : Settling → Settled → Mome
     abbrev deed : Deed
     deed = call_with reply
 
-    step : IsStep (settler n) before after m reply new.work turn
+    step : IsStep (occasion_of (settler n) before after) m reply new.work turn
     step = stepped (settler n) before after new.buffer old.work old.cache p.shown.0 new.work new.shown turn p.work p.shown.1 m way.works
 
     left : Leaves (settler n) (settle_ask m) reply (counted before.counts from.state) after.counts after.state

@@ -97,7 +97,7 @@ module _ (book : Book) (order : List Entry) (s : CloudState) (stands : StandsUnd
       walks w seeks made = walk_shown book order s stands who before after t told told_after held Spent w m.1 (record { walk = seeks.walk; cache = k.cache }) reply made
 
       on : (hand : Hand) → KnowsHand hand st t.now m.0.draft part → IsSoundAt hand m.0.draft.writes → Makes who (ask_at hand m.0.draft.writes) reply before after
-          → MayAnswerIn (Shown (ask_at hand m.0.draft.writes)) (Shown (ask_at hand m.0.draft.writes)) st hand m.0.draft m.1 reply
+          → MayAnswerIn (Shown (ask_at hand m.0.draft.writes)) (Shown (ask_at hand m.0.draft.writes)) st hand m reply
       on Writes a sound made = stage_shown m.0.draft.writes m.0.draft.writes.stage a.home reply a.at sound made some
       on (First w) a sound made = walks w a made
       on (Change w) a sound made = walks w a made

@@ -67,10 +67,10 @@ MayAnswerAt May Deleting a = May trouble.Memory
 MayAnswerAt May Finished a = May trouble.Failed
 
 -- and of a run: its walk leads where its get may
-abbrev pub MayAnswerIn : (Trouble → Type 0) → (Trouble → Type 0) → Store → Hand → Draft → Cache → Answer → Type 0
-MayAnswerIn May MayWalk st Writes d c a = MayAnswerAt May d.writes.stage a
-MayAnswerIn May MayWalk st (First w) d c a = WalkLeads st MayWalk (walk_next (w, c) a)
-MayAnswerIn May MayWalk st (Change w) d c a = WalkLeads st MayWalk (walk_next (w, c) a)
+abbrev pub MayAnswerIn : (Trouble → Type 0) → (Trouble → Type 0) → Store → Hand → Run × Cache → Answer → Type 0
+MayAnswerIn May MayWalk st Writes m a = MayAnswerAt May m.0.draft.writes.stage a
+MayAnswerIn May MayWalk st (First w) m a = WalkLeads st MayWalk (walk_next (w, m.1) a)
+MayAnswerIn May MayWalk st (Change w) m a = WalkLeads st MayWalk (walk_next (w, m.1) a)
 
 -- ---- what is written
 
@@ -176,7 +176,7 @@ module _ (May : Trouble → Type 0) (txn : May (trouble.Exhausted counter.Txn)) 
   module _ (book : Book) (order : List Entry) (s : CloudState) (stands : StandsUnder book order s)
       (number : (client : ℕ) (counters : List QueueCount) → AreCounted book.log client counters → MayPass counters) where
     pub run_ends_by : (MayWalk : Trouble → Type 0) (fair : (t : Trouble) → MayWalk t → is_stale t ≡ false → May t) (who : Caller) (t : CloudState) (m : Run × Cache) (part : Part) (reply : Answer) → KnowsRun (store_of book order s) t.now m part
-        → IsCall who (asks m) reply s t → MayAnswerIn May MayWalk (store_of book order s) m.0.hand m.0.draft m.1 reply → EndsWell May (run_next m reply)
+        → IsCall who (asks m) reply s t → MayAnswerIn May MayWalk (store_of book order s) m.0.hand m reply → EndsWell May (run_next m reply)
     run_ends_by MayWalk fair who t m part reply k call may = on m.0.hand k.hand call may
       where
         walks : (first : Bool) (w : Walk) → KnowsSeeking (store_of book order s) t.now m.0.draft w part → IsCall who (ask_at (Change w) m.0.draft.writes) reply s t
@@ -187,7 +187,7 @@ module _ (May : Trouble → Type 0) (txn : May (trouble.Exhausted counter.Txn)) 
             (turn_leaves (store_of book order s) w m.1 reply k.cache (call_answers book order s stands who (object_of w) reply t call)) leads
 
         on : (hand : Hand) → KnowsHand hand (store_of book order s) t.now m.0.draft part → IsCall who (ask_at hand m.0.draft.writes) reply s t
-            → MayAnswerIn May MayWalk (store_of book order s) hand m.0.draft m.1 reply → EndsWell May (next_at hand m.0.draft m.1 reply)
+            → MayAnswerIn May MayWalk (store_of book order s) hand m reply → EndsWell May (next_at hand m.0.draft m.1 reply)
         on Writes a call may = wrote_well m.0.draft m.1 (writing_next m.0.draft.writes reply) (writes m.0.draft.writes reply (writing_next m.0.draft.writes reply) may (wrote_by m.0.draft.writes reply))
         on (First w) a call leads = walks true w a call leads
         on (Change w) a call leads = walks false w a call leads
@@ -258,7 +258,7 @@ module _ (book : Book) (order : List Entry) (s : CloudState) (stands : StandsUnd
       walks w seeks call = walk_goes book order s stands who w m.1 reply t call (record { walk = seeks.walk; cache = k.cache })
 
       on : (hand : Hand) → KnowsHand hand (store_of book order s) t.now m.0.draft part → IsCall who (ask_at hand m.0.draft.writes) reply s t
-          → MayAnswerIn MayStopCommit MayStopWalk (store_of book order s) hand m.0.draft m.1 reply
+          → MayAnswerIn MayStopCommit MayStopWalk (store_of book order s) hand m reply
       on Writes a call = answers_may m.0.draft.writes.stage reply
       on (First w) a call = walks w a call
       on (Change w) a call = walks w a call

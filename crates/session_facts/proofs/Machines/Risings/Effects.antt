@@ -6,6 +6,7 @@ use Rattle.std.proofs.lemmas.List.{length-reverse}
 use Rattle.cloud_facts.specs.Chains.Chain.{IsUnlinked}
 use Rattle.cloud_facts.specs.Chains.Cuts.{inner_node}
 use Rattle.cloud_facts.specs.Chains.Links.{top_of, newest_node, NodeNames}
+use Rattle.cloud_facts.specs.Calls.Acting.{Footing, store_on}
 use Rattle.cloud_facts.specs.Calls.Looks.{audit_of}
 use Rattle.cloud_facts.specs.Words.{IsTree, ObjName, Entry, Inner, CloudState, Caller, Claim, PutHeld, Goes, Ends, Stops, Book, Store, Node, Leafy, Branch, nodes_of, roots_of, store_of, StandsUnder}
 use Rattle.cloud_facts.specs.Calls.Standing.{Follows, Commits}
@@ -123,18 +124,35 @@ no_puts bytes page first (front ∷ middle) some e = some_puts bytes page first 
 
 -- ---- where it lands
 
+-- what a session holds at a clock: its part, and the leases in hand
+pub record Holder : Type 0 where
+  pub own : Home
+  pub mine : List Claim
+  pub now : ℕ
+
+abbrev pub holder : Home → List Claim → ℕ → Holder
+holder own mine now = record { own = own; mine = mine; now = now }
+
+-- a way up, by the lease of its tree, and the messages that its run took
+pub record Ascent : Type 0 where
+  pub lease : Claim
+  pub rising : Rising
+  pub ids : List ℕ
+
+abbrev pub ascent : Claim → Rising → List ℕ → Ascent
+ascent lease r ids = record { lease = lease; rising = r; ids = ids }
+
 -- the store after a put under the tree's lease, on what it rests, and where it leads; only the tree's objects change
-pub record RisingEffect (book : Book) (order : List Entry) (s : CloudState) (who : Caller) (own : Home) (mine : List Claim) (now : ℕ) (lease : Claim) (r : Rising) (ids : List ℕ) (name : ObjName)
-    (bytes : List ℕ) : Type 0 where
+pub record RisingEffect (on : Footing) (who : Caller) (by : Holder) (up : Ascent) (name : ObjName) (bytes : List ℕ) : Type 0 where
   pub after : Store
-  pub lands : Landing who (store_of book order s) (PutHeld name bytes lease None) after
-  pub follows : Follows who (store_of book order s) (PutHeld name bytes lease None) after lands
-  pub commits : Commits who (store_of book order s) own (PutHeld name bytes lease None) after lands
-  pub owes : OwesLease (in_hand_at mine now) who (store_of book order s) (PutHeld name bytes lease None) after lands
-  pub heads : after.tally.head ≡ (store_of book order s).tally.head
-  pub logged : after.tally.logged ≡ (store_of book order s).tally.logged
-  pub noted : audit_of after.book after.order ≡ audit_of book order
-  pub known : (u : CloudState) → StandsUnder after.book after.order u → store_of after.book after.order u ≡ after → RisesOn after now lease ids (put_landed r)
+  pub lands : Landing who (store_on on) (PutHeld name bytes up.lease None) after
+  pub follows : Follows who (store_on on) (PutHeld name bytes up.lease None) after lands
+  pub commits : Commits who (store_on on) by.own (PutHeld name bytes up.lease None) after lands
+  pub owes : OwesLease (in_hand_at by.mine by.now) who (store_on on) (PutHeld name bytes up.lease None) after lands
+  pub heads : after.tally.head ≡ (store_on on).tally.head
+  pub logged : after.tally.logged ≡ (store_on on).tally.logged
+  pub noted : audit_of after.book after.order ≡ audit_of on.book on.order
+  pub known : (u : CloudState) → StandsUnder after.book after.order u → store_of after.book after.order u ≡ after → RisesOn after by.now up.lease up.ids (put_landed up.rising)
 
 -- ---- a new piece
 

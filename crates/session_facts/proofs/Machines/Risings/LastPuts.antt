@@ -1,6 +1,7 @@
 -- The last puts of the way up: the pieces of a root that is cut, and the root itself.
 use Rattle.std.proofs.Common.{◌≡◌, ◌≢◌, ◌+◌, ◌-◌, ◌<◌, ◌≤◌, ◌==◌, ◌&&◌, ℕ, zero, suc, Bool, true, false, List, [], ◌∷◌, ◌++◌, length, map, reverse, drop, Option, Some, None, refl, sym, ap, subst, ◌∙◌, arith, append_assoc, length-append}
 use Rattle.std.specs.List.{AllByRecursion}
+use Rattle.cloud_facts.specs.Calls.Acting.{footing}
 use Rattle.cloud_facts.specs.Chains.Chain.{IsUnlinked}
 use Rattle.cloud_facts.specs.Chains.Cuts.{links_on, HaveLanded, inner_node}
 use Rattle.cloud_facts.specs.Chains.Links.{top_of, NamesLinks, NamesBelow}
@@ -37,7 +38,7 @@ use Rattle.session_facts.proofs.Machines.Risings.LastRoot.{last_landing, raise_l
 use Rattle.session_facts.proofs.Machines.Risings.Pieces.{pieces_name}
 use Rattle.session_facts.proofs.Machines.Trees.Placings.{puts_more, on_range, piece_landed}
 use Rattle.session_facts.proofs.Machines.Trees.Reserves.{spelled_root}
-use Rattle.session_facts.proofs.Machines.Risings.Effects.{RisingEffect, goes_last, ends_now, has_page, piece_after, piece_lands, stops_last}
+use Rattle.session_facts.proofs.Machines.Risings.Effects.{holder, ascent, RisingEffect, goes_last, ends_now, has_page, piece_after, piece_lands, stops_last}
 use Rattle.session_facts.proofs.Machines.Risings.Others.{raised_stays}
 use Rattle.session_facts.proofs.Machines.Risings.Puts.{root_is, root_behind, run_behind}
 
@@ -77,7 +78,7 @@ module _ (book : Book) (order : List Entry) (s : CloudState) (stands : StandsUnd
 
   -- ---- a root that is put whole
 
-  pub whole_effect : (p : PutsWhole st r bytes) → RisingEffect book order s who own mine now lease r ids (object.Tree tree) bytes
+  pub whole_effect : (p : PutsWhole st r bytes) → RisingEffect (footing book order s) who (holder own mine now) (ascent lease r ids) (object.Tree tree) bytes
   whole_effect p = record {
     after = after_root tree p.root st;
     lands = last_landing book order s stands tree k.tree root newest r.chart.run.top p.root p.raises p.next k.run.took.received r.chart.run.items
@@ -236,7 +237,7 @@ module _ (book : Book) (order : List Entry) (s : CloudState) (stands : StandsUnd
       then_leads false more = subst (RisesOn su now lease ids) (sym (goes_last r bytes full is_last more)) (then_known (piece_left more))
       then_leads true end = subst (RisesOn su now lease ids) (sym (stops_last r bytes full is_last end)) tt
 
-      pub cut_piece_effect : RisingEffect book order s who own mine now lease r ids (object.Page tree number) (node_bytes last)
+      pub cut_piece_effect : RisingEffect (footing book order s) who (holder own mine now) (ascent lease r ids) (object.Page tree number) (node_bytes last)
       cut_piece_effect = record {
         after = su;
         lands = lands;
@@ -292,7 +293,7 @@ module _ (book : Book) (order : List Entry) (s : CloudState) (stands : StandsUnd
           on false e = e
           on true e = let some = p.left e in let n = ap length is in absurd (omega (arith, some, n))
 
-      pub above_effect : RisingEffect book order s who own mine now lease r ids (object.Tree tree) bytes
+      pub above_effect : RisingEffect (footing book order s) who (holder own mine now) (ascent lease r ids) (object.Tree tree) bytes
       above_effect = record {
         after = after_raise tree above_root p.root.level links st;
         lands = raise_landing book order s stands tree k.tree root newest r.chart.run.top p.root p.raises planned.1 k.run.took.received r.chart.run.items k.run.took.is_run k.run.took.items

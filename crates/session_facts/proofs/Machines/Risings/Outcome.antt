@@ -18,7 +18,7 @@ use Rattle.tree_phases.specs.declared.rising.Rising.{Rising}
 use Rattle.tree_phases.specs.Rising.{rising_ask, rising_next, risen_by, put_landed as risen}
 use Rattle.session_facts.specs.Machines.Risings.Knows.{PutsNode, PutsWhole, PutsCut, PutsRoot, whole, cut, PutsOf, KnowsRising, RisesOn}
 use Rattle.session_facts.proofs.Machines.Trees.Placings.{last_cases, puts_more}
-use Rattle.session_facts.proofs.Machines.Risings.Effects.{RisingEffect, reserving_asked, page_asked, last_asked}
+use Rattle.session_facts.proofs.Machines.Risings.Effects.{holder, ascent, RisingEffect, reserving_asked, page_asked, last_asked}
 use Rattle.session_facts.proofs.Machines.Risings.LastPuts.{new_puts, whole_effect, cut_piece_effect, above_effect}
 use Rattle.session_facts.proofs.Machines.Risings.Puts.{piece_effect, left_effect}
 use Rattle.session_facts.proofs.Machines.Risings.Reserves.{node_reserves, root_reserves}
@@ -55,7 +55,7 @@ module _ (who : Caller) (s t : CloudState) (book : Book) (order : List Entry) (p
       on (Err trouble) e = tt
 
   abbrev EffectOf : ObjName → List ℕ → Type 0
-  EffectOf name bytes = RisingEffect book order s who own mine t.now lease r ids name bytes
+  EffectOf name bytes = RisingEffect (footing book order s) who (holder own mine t.now) (ascent lease r ids) name bytes
 
   -- a put leaves what its effect is where it lands, and all as it was where it does not
   put_outcome : (name : ObjName) (bytes : List ℕ) → rising_ask r lease ≡ PutHeld name bytes lease None → (Lasts t.now lease → EffectOf name bytes)

@@ -2,6 +2,7 @@
 use Rattle.std.proofs.Common.{◌≡◌, ◌≢◌, ◌+◌, ◌-◌, ◌<◌, ◌==◌, ◌⊎◌, inl, inr, ℕ, zero, Bool, true, false, List, [], ◌∷◌, ◌++◌, length, map, reverse, drop, Option, Some, None, refl, sym, ap, subst, ◌∙◌, arith, append_assoc, length-append}
 use Rattle.std.specs.Prelude.{slice_get}
 use Rattle.std.proofs.lemmas.Bool.{eqb-true, eqb-false}
+use Rattle.cloud_facts.specs.Calls.Acting.{footing}
 use Rattle.cloud_facts.specs.Chains.Chain.{IsChained, IsUnlinked, IsVersionOf}
 use Rattle.cloud_facts.specs.Chains.Cuts.{links_on, HaveLanded, inner_node}
 use Rattle.cloud_facts.specs.Chains.Links.{top_of, newest_node, NamesLinks, NamesBelow}
@@ -43,7 +44,7 @@ use Rattle.session_facts.specs.Machines.Risings.Knows.{AppliesRun, KnowsUpward, 
 use Rattle.session_facts.proofs.Machines.Trees.Others.{root_stays, KeepsNodes, nodes_stay, links_stay}
 use Rattle.session_facts.proofs.Machines.Risings.Pieces.{risen_names, risen_lands}
 use Rattle.session_facts.proofs.Machines.Trees.Placings.{puts_more, on_range, piece_landed}
-use Rattle.session_facts.proofs.Machines.Risings.Effects.{RisingEffect, goes_on, goes_up, has_page, some_puts, inner_spelled, no_branch, piece_after, piece_lands}
+use Rattle.session_facts.proofs.Machines.Risings.Effects.{holder, ascent, RisingEffect, goes_on, goes_up, has_page, some_puts, inner_spelled, no_branch, piece_after, piece_lands}
 use Rattle.session_facts.proofs.Machines.Risings.Others.{applies_stays, node_stays}
 use Rattle.session_facts.proofs.Machines.Risings.Nexts.{rise_leads}
 
@@ -255,7 +256,7 @@ module _ (book : Book) (order : List Entry) (s : CloudState) (stands : StandsUnd
       puts = subst (λ (o : Option (List ℕ)). PutsOf su now lease (landed r) o) (sym no_last) puts_then;
     }
 
-    pub piece_effect : RisingEffect book order s who own mine now lease r ids (object.Page tree number) (node_bytes last)
+    pub piece_effect : RisingEffect (footing book order s) who (holder own mine now) (ascent lease r ids) (object.Page tree number) (node_bytes last)
     piece_effect = record {
       after = su;
       lands = lands;
@@ -380,7 +381,7 @@ module _ (book : Book) (order : List Entry) (s : CloudState) (stands : StandsUnd
         goes_up r (has_page r (λ e. some_puts node_bytes p.kept.page p.first front p.placing.middle (sym p.placing.puts_are ∙ e)))
         (ap (λ (o : Option (List ℕ)). puts_after o r.placing.puts) none ∙ ap (λ (l : List PagePut). drop 1 l) left_puts) no_last
 
-    pub left_effect : RisingEffect book order s who own mine now lease r ids (object.Page tree p.kept.page) (node_bytes front)
+    pub left_effect : RisingEffect (footing book order s) who (holder own mine now) (ascent lease r ids) (object.Page tree p.kept.page) (node_bytes front)
     left_effect = record {
       after = left_after;
       lands = left_lands;

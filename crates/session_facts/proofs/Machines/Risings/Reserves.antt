@@ -1,5 +1,6 @@
 -- The put that reserves the numbers of new pieces on the way up, of a node's and of the root's.
 use Rattle.std.proofs.Common.{◌≡◌, ◌+◌, ◌-◌, ◌&&◌, inr, ℕ, Bool, true, false, List, [], length, length-append, drop, Option, Some, None, refl, sym, ap, subst, ◌∙◌, arith}
+use Rattle.cloud_facts.specs.Calls.Acting.{footing}
 use Rattle.cloud_facts.specs.Words.{Entry, Tree, CloudState, Caller, Claim, Lasts, PutHeld, Goes, Book, Store, Branch, nodes_of, roots_of, store_of, StandsUnder}
 use Rattle.cloud_facts.specs.Chains.Chain.{IsChained}
 use Rattle.cloud_facts.specs.Chains.Cuts.{inner_node}
@@ -30,7 +31,7 @@ use Rattle.session_facts.proofs.Machines.Folds.Others.{done_stays}
 use Rattle.session_facts.proofs.Machines.Trees.Reserves.{reservation_landing, reservation_held, reserved_then, root_known}
 use Rattle.session_facts.proofs.Machines.Risings.Grounds.{top_most}
 use Rattle.session_facts.proofs.Machines.Risings.Places.{parts_count}
-use Rattle.session_facts.proofs.Machines.Risings.Effects.{RisingEffect, has_reservation, goes_on, goes_last, some_puts, some_left, never_both, no_puts}
+use Rattle.session_facts.proofs.Machines.Risings.Effects.{holder, ascent, RisingEffect, has_reservation, goes_on, goes_last, some_puts, some_left, never_both, no_puts}
 use Rattle.session_facts.proofs.Machines.Risings.Others.{node_stays}
 
 module _ (book : Book) (order : List Entry) (s : CloudState) (stands : StandsUnder book order s) (who : Caller) (own : Home) (mine : List Claim) (now : ℕ) (lease : Claim) (r : Rising) (ids : List ℕ)
@@ -131,7 +132,7 @@ module _ (book : Book) (order : List Entry) (s : CloudState) (stands : StandsUnd
     known : PutsOf su now lease (landed r) r.last → KnowsRising su now lease (landed r) ids
     known puts = record { tree = k.tree; root = root_then; run = run_then; puts = puts }
 
-    effect : RisesOn su now lease ids (put_landed r) → RisingEffect book order s who own mine now lease r ids (object.Tree tree) bytes
+    effect : RisesOn su now lease ids (put_landed r) → RisingEffect (footing book order s) who (holder own mine now) (ascent lease r ids) (object.Tree tree) bytes
     effect leads = record {
       after = su;
       lands = lands;
@@ -146,7 +147,7 @@ module _ (book : Book) (order : List Entry) (s : CloudState) (stands : StandsUnd
 
   -- ---- of a node, and of the root
 
-  pub node_reserves : (p : PutsNode st now lease r) → r.last ≡ None → RisingEffect book order s who own mine now lease r ids (object.Tree tree) bytes
+  pub node_reserves : (p : PutsNode st now lease r) → r.last ≡ None → RisingEffect (footing book order s) who (holder own mine now) (ascent lease r ids) (object.Tree tree) bytes
   node_reserves p none = effect (length p.placing.middle) p.first planned.1 may (subst (RisesOn after now lease ids) (sym leads) then_known)
     where
       planned : (p.placing.behind ≡ []) × IsReservation root (length p.placing.middle) p.first bytes
@@ -178,7 +179,7 @@ module _ (book : Book) (order : List Entry) (s : CloudState) (stands : StandsUnd
           known (length p.placing.middle) p.first planned.1 may
           (subst (λ (o : Option (List ℕ)). PutsOf after now lease (landed r) o) (sym none) (node_then (length p.placing.middle) p.first planned.1 may p planned.0 refl refl))
 
-  pub root_reserves : (last : List ℕ) (p : PutsCut st now lease r last) → r.last ≡ Some last → RisingEffect book order s who own mine now lease r ids (object.Tree tree) bytes
+  pub root_reserves : (last : List ℕ) (p : PutsCut st now lease r last) → r.last ≡ Some last → RisingEffect (footing book order s) who (holder own mine now) (ascent lease r ids) (object.Tree tree) bytes
   root_reserves last p is_last = effect (length p.middle) p.first planned.1 may (subst (RisesOn after now lease ids) (sym leads) then_known)
     where
       planned : (p.behind ≡ []) × IsReservation root (length p.middle) p.first bytes × (r.is_spent ≡ false → p.root.version ≡ root.version + 1 + 1) × (p.root.next ≡ root.next + length p.middle)

@@ -121,12 +121,23 @@ ids_only tried id there = tried_to tried [] id (inl there)
 
 -- ---- its opening
 
+-- what an opening takes up: of a queue at most so many messages, of an object its bytes, and what came of both
+pub record Uptake : Type 0 where
+  pub queue : QueueName
+  pub most : ℕ
+  pub name : ObjName
+  pub messages : List Message
+  pub got : Option (List ℕ)
+
+abbrev pub uptake : QueueName → ℕ → ObjName → List Message → Option (List ℕ) → Uptake
+uptake q most name ms got = record { queue = q; most = most; name = name; messages = ms; got = got }
+
 -- what the opening tells of the state before it
-pub record OpensQueue (q : QueueName) (most : ℕ) (name : ObjName) (ms : List Message) (got : Option (List ℕ)) (h : List Deed) (s t : CloudState) : Type 0 where
-  pub seen : got ≡ newest s name
+pub record OpensQueue (up : Uptake) (h : List Deed) (s t : CloudState) : Type 0 where
+  pub seen : up.got ≡ newest s up.name
   pub messages : t.messages ≡ s.messages
-  pub sent : AllByRecursion (WasSent (s.messages q)) ms
-  pub delivers : AreDelivered h → IsDelivering (s.messages q) most ms
+  pub sent : AllByRecursion (WasSent (s.messages up.queue)) up.messages
+  pub delivers : AreDelivered h → IsDelivering (s.messages up.queue) up.most up.messages
 
 abbrev Is : Deed → Ask → Answer → Type 0
 Is d ask a = ◌≡◌ {A = Ask × Answer} (d.ask, d.answer) (ask, a)
@@ -165,7 +176,7 @@ versions_stay d s t ask a between e puts =
     row_versions d.who ask a c.before c.after (called d.who t.now s) t c.row puts
 
 pub opens : (q : QueueName) (most : ℕ) (name : ObjName) (ms : List Message) (got : Option (List ℕ)) (lease : Claim) (lock : Lock) (ticks : ℕ) (h : List Deed) (s t : CloudState) → Trail h s t
-    → calls_of h ≡ (Receive q most, Received ms) ∷ (GetHeld name lease, Got got) ∷ (Take lock ticks, Given lease) ∷ [] → OpensQueue q most name ms got h s t
+    → calls_of h ≡ (Receive q most, Received ms) ∷ (GetHeld name lease, Got got) ∷ (Take lock ticks, Given lease) ∷ [] → OpensQueue (uptake q most name ms got) h s t
 opens q most name ms got lease lock ticks [] s t trail are = absurd (cc (are))
 opens q most name ms got lease lock ticks (d3 ∷ []) s t trail are = absurd (cc (are))
 opens q most name ms got lease lock ticks (d3 ∷ d2 ∷ []) s t trail are = absurd (cc (are))

@@ -21,7 +21,7 @@ use Rattle.page_ckpt.specs.Leases.{Went}
 use Rattle.session_facts.proofs.Machines.PageCheckpoints.Reads.{named_is}
 use Rattle.session_facts.proofs.Machines.Runs.Leaves.{own_cursor, own_queue}
 use Rattle.session_facts.proofs.Settling.Drains.{left_by, marked_over, waiting_over, left_count, left_kept, all_covered, covered_received}
-use Rattle.session_facts.proofs.Settling.Pages.Calls.{IsOver, main_quiet, ids_tried, deletes_done, ids_there, ids_only, OpensQueue, opens}
+use Rattle.session_facts.proofs.Settling.Pages.Calls.{uptake, IsOver, main_quiet, ids_tried, deletes_done, ids_there, ids_only, OpensQueue, opens}
 use Rattle.session_facts.proofs.Settling.Trees.Emptied.{drained}
 use Rattle.session_facts.proofs.Settling.Trails.{Calls, AreQuiet, IsBetween, Trail, between_call, deletions_of, Splits, splits, trail_messages, trail_deletes}
 use Rattle.session_facts.specs.Machines.PageCheckpoints.Rights.{IsNewestLeaf}
@@ -66,7 +66,7 @@ module _ (first : Moment) (was m : Paging) (earlier : List Deed) (end : Deed) (a
   early : Splits late.before over.0 (opening_calls (scene m) done.lease done.opening) first.state late.mid
   early = splits late.before over.0 (opening_calls (scene m) done.lease done.opening) first.state late.mid late.first (late.earlier_are ∙ over.1)
 
-  opened : OpensQueue q 256 (object.Page m.tree m.page) messages (done.opening).got early.before first.state early.mid
+  opened : OpensQueue (uptake q 256 (object.Page m.tree m.page) messages (done.opening).got) early.before first.state early.mid
   opened =
       opens q 256 (object.Page m.tree m.page) messages (done.opening).got done.lease (lock.Page m.tree m.page) 30 early.before first.state early.mid early.first early.earlier_are
 

@@ -169,7 +169,7 @@ load_stops : (wanted result : Status) (dir : List ℕ) (left rest : Told) (w u :
     → RunsLoad result (outside left w s) (outside rest u t) → EndsWith wanted (Some (Load dir)) result (effects w s) (effects u t)
 load_stops wanted result dir left rest w u s t f fit ran = on (fallen result left rest w u s t f ran) fit
   where
-    on : Fallen result left rest w u s t → Fit wanted (Load dir) left rest → EndsWith wanted (Some (Load dir)) result (effects w s) (effects u t)
+    on : Fallen result (outside left w s) (outside rest u t) → Fit wanted (Load dir) left rest → EndsWith wanted (Some (Load dir)) result (effects w s) (effects u t)
     on it (inl e) = inr (e, it.stopped)
     on it (inr both) =
         let read = it.input in

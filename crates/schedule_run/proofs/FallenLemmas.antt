@@ -8,7 +8,7 @@ use Rattle.dump_text.specs.Text.{IsDump}
 use Rattle.db_io.specs.declared.input.InputFault.{InputFault}
 use Rattle.db_io.specs.declared.input.InputFault.TheVariants as input
 use Rattle.db_io.specs.declared.input.TheConstants.{MAX_DUMP}
-use Rattle.schedule_run.specs.Outside.{effects, outside}
+use Rattle.schedule_run.specs.Outside.{Outside, effects_of, effects, outside}
 use Rattle.schedule_run.specs.declared.load.Loaded.{Loaded}
 use Rattle.schedule_run.specs.declared.load.LoadStop.{LoadStop}
 use Rattle.schedule_run.specs.declared.loading.LoadingFault.{LoadingFault}
@@ -63,17 +63,17 @@ fell load.WriteFault text w u s t f went = absurd f
 fell load.Memory text w u s t f went = absurd f
 
 -- the input was read, and spells a dump, whose load stopped
-pub record Fallen (result : Status) (left rest : Told) (written now_written : Written) (start now : Seen) : Type 0 where
-  pub input : ReadWhole MAX_DUMP left rest
+pub record Fallen (result : Status) (before after : Outside) : Type 0 where
+  pub input : ReadWhole MAX_DUMP before.input after.input
   pub spells : Spells input.bytes
-  pub stopped : LoadStopped result (effects written start) (effects now_written now)
+  pub stopped : LoadStopped result (effects_of before) (effects_of after)
 
 unread : (fault : InputFault) → Falls (status_of_input fault) → ⊥
 unread input.ReadFault f = f
 unread input.TooLong f = f
 unread input.Memory f = f
 
-pub fallen : (result : Status) (left rest : Told) (w u : Written) (s t : Seen) → Falls result → RunsLoad result (outside left w s) (outside rest u t) → Fallen result left rest w u s t
+pub fallen : (result : Status) (left rest : Told) (w u : Written) (s t : Seen) → Falls result → RunsLoad result (outside left w s) (outside rest u t) → Fallen result (outside left w s) (outside rest u t)
 fallen result left rest w u s t f (load_unread fault e nothing) = absurd (unread fault (subst Falls e f))
 fallen result left rest w u s t f (load_went read (Ok done) e went) = absurd (subst Falls e f)
 fallen result left rest w u s t f (load_went read (Err fault) e went) =

@@ -31,7 +31,8 @@ use Rattle.world_core.specs.Stands.{WorldStands, StandsOn, Grows}
 use Rattle.world_core.specs.Span.{span_of}
 use Rattle.world_core.proofs.StartLemmas.{new_stands}
 use Rattle.world_core.proofs.Caused.{caused}
-use Rattle.schedule_run.specs.Outside.{effects}
+use Rattle.schedule_run.specs.Outside.{Effects, effects}
+use Rattle.schedule_run.proofs.Cuts.{TextCut, text_cut}
 use Rattle.schedule_run.specs.declared.replay.LineFault.{LineFault}
 use Rattle.schedule_run.specs.declared.replay.LineFault.TheVariants.{BadLine, WriteFault, Memory}
 use Rattle.schedule_run.specs.Answered.{IsNew, WentOn, start, further, AreAnswered, AreExplained, AreMetered, ReportsAreRight, RepliesAreSound, ActsByTheLines, AcknowledgedStay, KeepsTheTheorem, ReportsCome}
@@ -268,15 +269,15 @@ at_stop text rest n w v s t first world fresh is = record {
 -- ---- a line that ends the run
 
 -- a text of the lines was met, and calls were made at it
-pub record IsMet (text rest behind line : List ℕ) (n m : ℕ) (w v : Written) (s t z : Seen) (first old : World) : Type 0 where
-  pub fresh : IsNew false first
-  pub is : HasHandledLines text rest n (effects w s, first) (effects v t, old)
-  pub split : lines_of rest ≡ line ∷ lines_of behind
+pub record IsMet (cut : TextCut) (n m : ℕ) (z : Seen) (start now : Effects × World) : Type 0 where
+  pub fresh : IsNew false start.1
+  pub is : HasHandledLines cut.whole cut.rest n start now
+  pub split : lines_of cut.rest ≡ cut.line ∷ lines_of cut.behind
   pub next : m ≡ n + 1
-  pub grows : Grows m t z
+  pub grows : Grows m now.0.cloud z
 
 met_count : {text rest behind line : List ℕ} {n m : ℕ} {w v : Written} {s t z : Seen} {first old : World}
-    → (met : IsMet text rest behind line n m w v s t z first old) → m ≡ length met.is.handles.lines + 1
+    → (met : IsMet (text_cut text rest behind line) n m z (effects w s, first) (effects v t, old)) → m ≡ length met.is.handles.lines + 1
 met_count {text} {rest} {behind} {line} {n} {m} met =
     let at : length met.is.earlier ≡ n = met.is.count in
     let k : length met.is.handles.lines ≡ length met.is.earlier = spelled_length met.is.earlier met.is.handles.lines met.is.handles.spelled in
@@ -285,7 +286,7 @@ met_count {text} {rest} {behind} {line} {n} {m} met =
 
 -- the reports of what was handled, after calls of a later line
 keeps : {text rest behind line : List ℕ} {n m : ℕ} {w v : Written} {s t z : Seen} {first old : World}
-    → (met : IsMet text rest behind line n m w v s t z first old) → KeepsTheTheorem met.is.handles.lines s z
+    → (met : IsMet (text_cut text rest behind line) n m z (effects w s, first) (effects v t, old)) → KeepsTheTheorem met.is.handles.lines s z
 keeps {text} {rest} {behind} {line} {n} {m} {w} {v} {s} {t} {z} {first} {old} met x told empty =
     let h = met.is.handles in
     let o = h.stands x told empty in
@@ -305,7 +306,7 @@ keeps {text} {rest} {behind} {line} {n} {m} {w} {v} {s} {t} {z} {first} {old} me
 
 -- the run ends before a text that has no reply
 ends_before : {text rest behind line : List ℕ} {n m : ℕ} {w v : Written} {s t z : Seen} {first old : World}
-    → (ended : Result (Unit {0}) LineFault) (u : Written) → (met : IsMet text rest behind line n m w v s t z first old)
+    → (ended : Result (Unit {0}) LineFault) (u : Written) → (met : IsMet (text_cut text rest behind line) n m z (effects w s, first) (effects v t, old))
     → Ended ended met.is.handles.lines (line ∷ lines_of behind) (effects w s) (effects u z) → WentThrough text ended (effects w s) (effects u z)
 ends_before {text} {rest} {behind} {line} ended u met so = record {
   lines = met.is.handles.lines;
@@ -319,13 +320,13 @@ ends_before {text} {rest} {behind} {line} ended u met so = record {
 
 -- the lines with the text's own
 went_answer : {text rest behind line : List ℕ} {n m : ℕ} {w v : Written} {s t z : Seen} {first old : World}
-    → (met : IsMet text rest behind line n m w v s t z first old) (new : World) (one : Line) → IsAnswered m one.event (span_of t z old new) one.reply
+    → (met : IsMet (text_cut text rest behind line) n m z (effects w s, first) (effects v t, old)) (new : World) (one : Line) → IsAnswered m one.event (span_of t z old new) one.reply
     → WentOn s first (met.is.handles.lines ++ one ∷ []) z new
 went_answer {text} {rest} {behind} {line} {n} {m} {w} {v} {s} {t} {z} {first} {old} met new one a =
     further met.is.handles.lines one t z old new met.is.handles.went (subst (λ j. Handled j one.event (span_of t z old new) (Ok one.reply)) (met_count met) a.handled)
 
 with_answer : {text rest behind line : List ℕ} {n m : ℕ} {w v : Written} {s t z : Seen} {first old : World}
-    → (met : IsMet text rest behind line n m w v s t z first old) (new : World) (one : Line) → IsAnswered m one.event (span_of t z old new) one.reply
+    → (met : IsMet (text_cut text rest behind line) n m z (effects w s, first) (effects v t, old)) (new : World) (one : Line) → IsAnswered m one.event (span_of t z old new) one.reply
     → AreAnswered false (met.is.handles.lines ++ one ∷ []) s z
 with_answer {text} {rest} {behind} {line} {n} {m} {w} {v} {s} {t} {z} {first} {old} met new one a =
     let went : WentOn s first (met.is.handles.lines ++ one ∷ []) z new = went_answer met new one a in
@@ -346,7 +347,7 @@ with_answer {text} {rest} {behind} {line} {n} {m} {w} {v} {s} {t} {z} {first} {o
 
 -- the run ends behind a text that has a reply
 ends_behind : {text rest behind line : List ℕ} {n m : ℕ} {w v : Written} {s t z : Seen} {first old : World}
-    → (ended : Result (Unit {0}) LineFault) (u : Written) (new : World) (one : Line) → (met : IsMet text rest behind line n m w v s t z first old)
+    → (ended : Result (Unit {0}) LineFault) (u : Written) (new : World) (one : Line) → (met : IsMet (text_cut text rest behind line) n m z (effects w s, first) (effects v t, old))
     → IsEvent line one.event → IsAnswered m one.event (span_of t z old new) one.reply
     → Ended ended (met.is.handles.lines ++ one ∷ []) (lines_of behind) (effects w s) (effects u z) → WentThrough text ended (effects w s) (effects u z)
 ends_behind {text} {rest} {behind} {line} {n} {m} {w} {v} {s} {t} {z} {first} {old} ended u new one met spells a so =
@@ -366,14 +367,14 @@ ends_behind {text} {rest} {behind} {line} {n} {m} {w} {v} {s} {t} {z} {first} {o
 
 -- the lines before the text, where no call was made at it
 before_unmoved : {text rest behind line : List ℕ} {n m : ℕ} {w v : Written} {s t z : Seen} {first old : World}
-    → (met : IsMet text rest behind line n m w v s t z first old) → z ≡ t → AreAnswered false met.is.handles.lines s z
+    → (met : IsMet (text_cut text rest behind line) n m z (effects w s, first) (effects v t, old)) → z ≡ t → AreAnswered false met.is.handles.lines s z
 before_unmoved {text} {rest} {behind} {line} {n} {m} {w} {v} {s} {t} {z} {first} {old} met e =
     let h = met.is.handles in
     subst (λ x. AreAnswered false h.lines s x) (sym e) (answered met.is.earlier w v s t first old met.fresh h)
 
 -- the event of the text has no reply
 no_answer : {text rest behind line : List ℕ} {n m : ℕ} {w v : Written} {s t z : Seen} {first old : World}
-    → (met : IsMet text rest behind line n m w v s t z first old) (u : Written) (new : World) (event : Event) (fault : WorldFault) → IsEvent line event
+    → (met : IsMet (text_cut text rest behind line) n m z (effects w s, first) (effects v t, old)) (u : Written) (new : World) (event : Event) (fault : WorldFault) → IsEvent line event
     → Handled m event (span_of t z old new) (Err fault) → u ≡ v → EndedBy fault met.is.handles.lines (line ∷ lines_of behind) (effects w s) (effects u z)
 no_answer {text} {rest} {behind} {line} {n} {m} {w} {v} {s} {t} {z} {first} {old} met u new event fault spells handled same =
     let h = met.is.handles in
@@ -396,7 +397,7 @@ no_answer {text} {rest} {behind} {line} {n} {m} {w} {v} {s} {t} {z} {first} {old
 
 -- the reply was cut
 cut_reply : {text rest behind line : List ℕ} {n m : ℕ} {w v : Written} {s t z : Seen} {first old : World}
-    → (met : IsMet text rest behind line n m w v s t z first old) (u : Written) (one : Line) → AddsPart v u (reply_line m one.reply)
+    → (met : IsMet (text_cut text rest behind line) n m z (effects w s, first) (effects v t, old)) (u : Written) (one : Line) → AddsPart v u (reply_line m one.reply)
     → WroteFront (met.is.handles.lines ++ one ∷ []) (lines_of behind) w u
 cut_reply {text} {rest} {behind} {line} {n} {m} {w} {v} met u one front =
     let ls = met.is.handles.lines in
@@ -406,13 +407,13 @@ cut_reply {text} {rest} {behind} {line} {n} {m} {w} {v} met u one front =
 
 -- the refusal was cut
 cut_refusal : {text rest behind line : List ℕ} {n m : ℕ} {w v : Written} {s t z : Seen} {first old : World}
-    → (met : IsMet text rest behind line n m w v s t z first old) (u : Written) → ((event : Event) → IsEvent line event → ⊥) → AddsPart v u (bad_line m)
+    → (met : IsMet (text_cut text rest behind line) n m z (effects w s, first) (effects v t, old)) (u : Written) → ((event : Event) → IsEvent line event → ⊥) → AddsPart v u (bad_line m)
     → WroteFront met.is.handles.lines (line ∷ lines_of behind) w u
 cut_refusal {text} {rest} {behind} {line} {n} {m} {w} {v} met u bad front =
     refusal_cut bad (record { between = v; each = met.is.handles.wrote; front = subst (λ j. AddsPart v u (bad_line j)) (met_count met) front })
 
 by_fault : {text rest behind line : List ℕ} {n m : ℕ} {w v : Written} {s t z : Seen} {first old : World}
-    → (u : Written) (new : World) (fault : LineFault) → IsMet text rest behind line n m w v s t z first old
+    → (u : Written) (new : World) (fault : LineFault) → IsMet (text_cut text rest behind line) n m z (effects w s, first) (effects v t, old)
     → LineWent (Err fault) m line (effects v t, old) (effects u z, new) → WentThrough text (Err fault) (effects w s) (effects u z)
 by_fault {text} {rest} {behind} {line} {n} {m} {w} {v} {s} {t} {z} {first} {old} u new BadLine met (event_handled event spells p) = absurd p
 by_fault {text} {rest} {behind} {line} {n} {m} {w} {v} {s} {t} {z} {first} {old} u new BadLine met (refused bad e adds) =
@@ -438,5 +439,5 @@ pub at_fault : (text rest behind line : List ℕ) (n m : ℕ) (w v u : Written) 
     → IsNew false first → HasHandledLines text rest n (effects w s, first) (effects v t, old) → lines_of rest ≡ line ∷ lines_of behind → m ≡ n + 1
     → LineWent (Err fault) m line (effects v t, old) (effects u z, new) → Grows m t z → WentThrough text (Err fault) (effects w s) (effects u z)
 at_fault text rest behind line n m w v u s t z first old new fault fresh is split next went grows =
-    let met : IsMet text rest behind line n m w v s t z first old = record { fresh = fresh; is = is; split = split; next = next; grows = grows } in
+    let met : IsMet (text_cut text rest behind line) n m z (effects w s, first) (effects v t, old) = record { fresh = fresh; is = is; split = split; next = next; grows = grows } in
     by_fault u new fault met went

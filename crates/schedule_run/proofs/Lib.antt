@@ -4,6 +4,7 @@ pub mod BehindLemmas
 pub mod StayLemmas
 pub mod WriteLemmas
 pub mod SeeingLemmas
+pub mod Cuts
 pub mod GoingLemmas
 pub mod PlayLemmas
 pub mod OnceLemmas

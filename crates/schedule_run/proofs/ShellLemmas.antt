@@ -15,7 +15,8 @@ use Rattle.reply_text.specs.declared.reply.Reply.TheVariants.{Begun}
 use Rattle.replay_meaning.specs.Standing.{Line}
 use Rattle.words.specs.Word.{IsReadTo}
 use Rattle.words.specs.declared.fault.TextFault.TheVariants.{NotInGrammar}
-use Rattle.schedule_run.specs.Outside.{effects}
+use Rattle.schedule_run.specs.Outside.{Effects, effects}
+use Rattle.schedule_run.proofs.Cuts.{TextCut, text_cut}
 use Rattle.schedule_run.specs.InPlay.{Play}
 use Rattle.schedule_run.specs.declared.shell.ShellFault.{ShellFault}
 use Rattle.schedule_run.specs.declared.shell.ShellFault.TheVariants.{NotOpened, BadLine, WriteFault, Memory}
@@ -313,25 +314,25 @@ at_end client text rest n m w v u s t z old new result is none next closing = sh
 -- ---- a line that ends the shell
 
 -- a line was met
-pub record IsMet (client : ℕ) (text rest behind line : List ℕ) (n m : ℕ) (w v : Written) (s t : Seen) (old : Play) : Type 0 where
-  pub is : HasRunLines client text rest n (effects w s) (effects v t, old)
-  pub split : lines_of rest ≡ line ∷ lines_of behind
+pub record IsMet (client : ℕ) (cut : TextCut) (n m : ℕ) (start : Effects) (now : Effects × Play) : Type 0 where
+  pub is : HasRunLines client cut.whole cut.rest n start now
+  pub split : lines_of cut.rest ≡ cut.line ∷ lines_of cut.behind
   pub next : m ≡ n + 1
 
 met_count : {client : ℕ} {text rest behind line : List ℕ} {n m : ℕ} {w v : Written} {s t : Seen} {old : Play}
-    → (met : IsMet client text rest behind line n m w v s t old) → m ≡ length met.is.replies
+    → (met : IsMet client (text_cut text rest behind line) n m (effects w s) (effects v t, old)) → m ≡ length met.is.replies
 met_count {client} {text} {rest} {behind} {line} {n} {m} {w} {v} {s} {t} {old} met = replies_count client text rest n m w v s t old met.is met.next
 
 -- the shell ends before it
 ends_before : {client : ℕ} {text rest behind line : List ℕ} {n m : ℕ} {w v : Written} {s t : Seen} {old : Play}
-    → (result : Result (Unit {0}) ShellFault) (u : Written) (z : Seen) → (met : IsMet client text rest behind line n m w v s t old)
+    → (result : Result (Unit {0}) ShellFault) (u : Written) (z : Seen) → (met : IsMet client (text_cut text rest behind line) n m (effects w s) (effects v t, old))
     → ShellEnded result client met.is.events (line ∷ lines_of behind) (effects w s) (effects u z) → ShellWent client text result (effects w s) (effects u z)
 ends_before {client} {text} {rest} {behind} {line} {n} {m} {w} {v} {s} {t} {old} result u z met so = shell_went met.is.events met.is.earlier (line ∷ lines_of behind) (met.is.at ∙ ap (λ ls. met.is.earlier ++ ls) met.split) met.is.spelled
     so
 
 -- its reply is cut
 ends_cut : {client : ℕ} {text rest behind line : List ℕ} {n m : ℕ} {w v : Written} {s t : Seen} {old : Play}
-    → (met : IsMet client text rest behind line n m w v s t old) (event : Event) (reply : Reply) (u : Written) (z : Seen) (new : Play)
+    → (met : IsMet client (text_cut text rest behind line) n m (effects w s) (effects v t, old)) (event : Event) (reply : Reply) (u : Written) (z : Seen) (new : Play)
     → IsShellLine line event → IsRun event reply t z old new → AddsPart v u (reply_line m reply)
     → ShellWent client text (Err WriteFault) (effects w s) (effects u z) × ShellWent client text (Err Memory) (effects w s) (effects u z)
 ends_cut {client} {text} {rest} {behind} {line} {n} {m} {w} {v} {s} {t} {old} met event reply u z new spells ran front =
@@ -349,7 +350,7 @@ ends_cut {client} {text} {rest} {behind} {line} {n} {m} {w} {v} {s} {t} {old} me
     )
 
 event_out : {client : ℕ} {text rest behind line : List ℕ} {n m : ℕ} {w v : Written} {s t : Seen} {old : Play}
-    → (met : IsMet client text rest behind line n m w v s t old) (event : Event) (u : Written) (z : Seen) (new : Play) → IsShellLine line event
+    → (met : IsMet client (text_cut text rest behind line) n m (effects w s) (effects v t, old)) (event : Event) (u : Written) (z : Seen) (new : Play) → IsShellLine line event
     → RanOutAt m event (effects v t) (effects u z) old new → ShellWent client text (Err Memory) (effects w s) (effects u z)
 event_out {client} {text} {rest} {behind} {line} {n} {m} {w} {v} {s} {t} {old} met event u z new spells (out_reply reply ran front) =
     (ends_cut met event reply u z new spells ran front).1
@@ -360,7 +361,7 @@ event_out {client} {text} {rest} {behind} {line} {n} {m} {w} {v} {s} {t} {old} m
     (subst (λ x. AddsEach w x (shown_from 0 is.replies)) (sym same) is.wrote))
 
 event_fault : {client : ℕ} {text rest behind line : List ℕ} {n m : ℕ} {w v : Written} {s t : Seen} {old : Play}
-    → (met : IsMet client text rest behind line n m w v s t old) (event : Event) (u : Written) (z : Seen) (new : Play) (fault : ShellFault)
+    → (met : IsMet client (text_cut text rest behind line) n m (effects w s) (effects v t, old)) (event : Event) (u : Written) (z : Seen) (new : Play) (fault : ShellFault)
     → IsShellLine line event → EventRan (Err fault) m event (effects v t, old) (effects u z, new) → ShellWent client text (Err fault) (effects w s) (effects u z)
 event_fault met event u z new NotOpened spells ran = absurd ran
 event_fault met event u z new BadLine spells ran = absurd ran
@@ -369,7 +370,7 @@ event_fault met event u z new Memory spells ran = event_out met event u z new sp
 
 -- its refusal is written, or a part of it
 line_refused : {client : ℕ} {text rest behind line : List ℕ} {n m : ℕ} {w v : Written} {s t : Seen} {old : Play}
-    → (met : IsMet client text rest behind line n m w v s t old) (u : Written) (z : Seen) (fault : ShellFault)
+    → (met : IsMet client (text_cut text rest behind line) n m (effects w s) (effects v t, old)) (u : Written) (z : Seen) (fault : ShellFault)
     → IsBad line → z ≡ t → LineRefused (Err fault) m v u → ShellEnded (Err fault) client met.is.events (line ∷ lines_of behind) (effects w s) (effects u z)
 line_refused {client} {text} {rest} {behind} {line} {n} {m} {w} {v} {s} {t} {old} met u z NotOpened bad same p = absurd p
 line_refused {client} {text} {rest} {behind} {line} {n} {m} {w} {v} {s} {t} {old} met u z BadLine bad same p =
@@ -396,7 +397,7 @@ line_refused {client} {text} {rest} {behind} {line} {n} {m} {w} {v} {s} {t} {old
 
 -- it was not read for want of memory
 line_unread : {client : ℕ} {text rest behind line : List ℕ} {n m : ℕ} {w v : Written} {s t : Seen} {old : Play}
-    → (met : IsMet client text rest behind line n m w v s t old) (u : Written) (z : Seen) → z ≡ t → u ≡ v
+    → (met : IsMet client (text_cut text rest behind line) n m (effects w s) (effects v t, old)) (u : Written) (z : Seen) → z ≡ t → u ≡ v
     → ShellWent client text (Err Memory) (effects w s) (effects u z)
 line_unread {client} {text} {rest} {behind} {line} {n} {m} {w} {v} {s} {t} {old} met u z same told =
     let is = met.is in
@@ -405,7 +406,7 @@ line_unread {client} {text} {rest} {behind} {line} {n} {m} {w} {v} {s} {t} {old}
     (subst (λ x. AddsEach w x (shown_from 0 is.replies)) (sym told) is.wrote))
 
 by_fault : {client : ℕ} {text rest behind line : List ℕ} {n m : ℕ} {w v : Written} {s t : Seen} {old : Play}
-    → (met : IsMet client text rest behind line n m w v s t old) (u : Written) (z : Seen) (new : Play) (fault : ShellFault)
+    → (met : IsMet client (text_cut text rest behind line) n m (effects w s) (effects v t, old)) (u : Written) (z : Seen) (new : Play) (fault : ShellFault)
     → LineRan (Err fault) m line (effects v t, old) (effects u z, new) → ShellWent client text (Err fault) (effects w s) (effects u z)
 by_fault met u z new fault (event_run event (Ok reply) spells e ran) = absurd (cc)
 by_fault {client} {text} {rest} {behind} {line} {n} {m} {w} {v} {s} {t} {old} met u z new fault (event_run event (Err why) spells e ran) =
@@ -418,5 +419,5 @@ pub at_fault : (client : ℕ) (text rest behind line : List ℕ) (n m : ℕ) (w 
     → HasRunLines client text rest n (effects w s) (effects v t, old) → lines_of rest ≡ line ∷ lines_of behind → m ≡ n + 1 → LineRan (Err fault) m line (effects v t, old) (effects u z, new)
     → ShellWent client text (Err fault) (effects w s) (effects u z)
 at_fault client text rest behind line n m w v u s t z old new fault is split next ran =
-    let met : IsMet client text rest behind line n m w v s t old = record { is = is; split = split; next = next } in
+    let met : IsMet client (text_cut text rest behind line) n m (effects w s) (effects v t, old) = record { is = is; split = split; next = next } in
     by_fault met u z new fault ran

@@ -62,3 +62,11 @@ lands r (Ok x) = on (has_nothing r.placing) refl where
   on : (b : Bool) → has_nothing r.placing ≡ b → Lands r (Ok x) (cond b (Ends r tt) (after_put (landed r)))
   on true e = is_last x e
   on false e = further e (has_nothing (landed r).placing) refl r.last refl r.is_spent refl
+
+-- ---- .. and back: a way up by what it comes to
+
+pub rises_rise : {r : Rising} {next : RisingStep} → Rises r next → rise r ≡ next
+rises_rise {r = r} (node_due k p at e) = ap (rise_at r (next_touched r)) at ∙ ap (put_node r (next_touched r + 1) (k.level + 1)) e
+rises_rise {r = r} (no_node k t at e) = ap (rise_at r (next_touched r)) at ∙ ap (put_node r (next_touched r + 1) (k.level + 1)) e
+rises_rise {r = r} (root_due p none e) = ap (rise_at r (next_touched r)) none ∙ ap (put_root r) e
+rises_rise {r = r} (no_root t none e) = ap (rise_at r (next_touched r)) none ∙ ap (put_root r) e

@@ -130,7 +130,7 @@ run_keeps st now m part reply k = on m.0.hand k.hand
     walks : (first : Bool) (walk : Walk) → RunKeeps entries w.home.client w.changes (walked first m.0.draft walk m.1 reply)
     walks first walk =
         refusal_keeps entries w.home.client w.changes _
-        (turns w.changes w.home.client first m.0.draft (walk_next (walk, m.1) reply) (record { changes_are = refl; client_is = refl }))
+        (turns w.changes w.home.client first m.0.draft walk m.1 reply (record { changes_are = refl; client_is = refl }))
 
     on : (hand : Hand) → KnowsHand hand st now m.0.draft part → RunKeeps entries w.home.client w.changes (run_next_at hand m.0.draft m.1 reply)
     on Writes h = wrote_keeps entries w.home.client w.changes m.0.draft m.1 (writing_next w reply) (keeps_by st now h.home w reply (writing_next w reply) h.at (wrote_by w reply))

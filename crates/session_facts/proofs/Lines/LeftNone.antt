@@ -25,7 +25,7 @@ use Rattle.commit_writes.specs.Writing.{Writing, head_ask, next_at}
 use Rattle.commit_writes.specs.declared.stage.Stage.{Stage}
 use Rattle.commit_writes.specs.declared.stage.Stage.TheVariants.{Logging, Opening}
 use Rattle.commit_run.proofs.Outcomes as step
-use Rattle.commit_run.proofs.Outcomes.{NextRun, Leads, turned_leads}
+use Rattle.commit_run.proofs.Outcomes.{NextRun, Leads, walked_leads}
 use Rattle.commit_writes.proofs.Outcomes as written
 use Rattle.commit_writes.proofs.Outcomes.{Comes as Wrote, comes as wrote_by}
 use Rattle.db_base.specs.declared.trouble.CommitAnswer.TheVariants.{Committed, NotCommitted, InDoubt, CommittedOpen}
@@ -183,10 +183,10 @@ module _ (st : Store) (now : ℕ) (parts : Parts) (session : ℕ) (homes : Homes
   hand_ends Writes k = write_ends d.writes.stage k.home k.at (next_at d.writes.stage d.writes a) (refuses d.writes a (next_at d.writes.stage d.writes a) (wrote_by d.writes a))
   hand_ends (First w) k =
       walk_ends (First w) (object_of w) (none_taken st now parts session d.writes k.draft.taken homes left) (walked true d w c a)
-      (leads d.writes.home.client d.writes.home.head.epoch d.writes.home.attempt d.writes (walked true d w c a) (own d.writes.home) (turned_leads d true (walk_next (w, c) a)))
+      (leads d.writes.home.client d.writes.home.head.epoch d.writes.home.attempt d.writes (walked true d w c a) (own d.writes.home) (walked_leads d true w c a))
   hand_ends (Change w) k =
       walk_ends (Change w) (object_of w) (none_taken st now parts session d.writes k.draft.taken homes left) (walked false d w c a)
-      (leads d.writes.home.client d.writes.home.head.epoch d.writes.home.attempt d.writes (walked false d w c a) (own d.writes.home) (turned_leads d false (walk_next (w, c) a)))
+      (leads d.writes.home.client d.writes.home.head.epoch d.writes.home.attempt d.writes (walked false d w c a) (own d.writes.home) (walked_leads d false w c a))
 
 -- ---- what such a call leaves
 

@@ -8,7 +8,7 @@ use Rattle.commit_run.specs.declared.hand.Hand.TheVariants.{Writes, First, Chang
 use Rattle.commit_run.specs.Draft.{Draft}
 use Rattle.commit_run.specs.Run.{Run, new_run, wrote, walked, run_ask, run_ready, next_at as run_next_at, run_next, ask_at as run_ask_at}
 use Rattle.commit_run.proofs.Outcomes as step
-use Rattle.commit_run.proofs.Outcomes.{NextRun, Leads, BeginsWith, records_of, taken, turned_leads, ready_leads}
+use Rattle.commit_run.proofs.Outcomes.{NextRun, Leads, BeginsWith, records_of, taken, walked_leads, ready_leads}
 use Rattle.commit_writes.proofs.Outcomes as written
 use Rattle.commit_writes.proofs.Outcomes.{Logs, Comes, begins, comes}
 use Rattle.commit_writes.specs.declared.stage.Stage.{Stage}
@@ -140,7 +140,7 @@ module _ (n : ℕ) where
           record { left = s.left; spent = s.spent; leaves = wrote_left s.left d m.1 (writing_next d.writes a) (writes_leave s.left d.writes a (writing_next d.writes a) s.leaves (comes d.writes a)) }
       on (First w) few =
           let none = get_none (object_of w) in
-          record { left = n; spent = omega (arith, none); leaves = leads_left d.writes (walked true d w m.1 a) few (turned_leads d true (walk_next (w, m.1) a)) }
+          record { left = n; spent = omega (arith, none); leaves = leads_left d.writes (walked true d w m.1 a) few (walked_leads d true w m.1 a) }
       on (Change w) few =
           let none = get_none (object_of w) in
-          record { left = n; spent = omega (arith, none); leaves = leads_left d.writes (walked false d w m.1 a) few (turned_leads d false (walk_next (w, m.1) a)) }
+          record { left = n; spent = omega (arith, none); leaves = leads_left d.writes (walked false d w m.1 a) few (walked_leads d false w m.1 a) }

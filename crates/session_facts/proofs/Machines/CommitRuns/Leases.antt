@@ -9,7 +9,7 @@ use Rattle.commit_run.specs.Run.{Run, new_run, home_of, next_at, wrote, walked, 
 use Rattle.commit_writes.proofs.Outcomes.{begins}
 use Rattle.commit_writes.specs.Writing.{Writing, begun, writing_next}
 use Rattle.commit_run.proofs.Outcomes as step
-use Rattle.commit_run.proofs.Outcomes.{NextRun, Leads, BeginsWith, records_of, taken, turned_leads, ready_leads}
+use Rattle.commit_run.proofs.Outcomes.{NextRun, Leads, BeginsWith, records_of, taken, walked_leads, ready_leads}
 use Rattle.page_cache.specs.Cache.{Cache}
 use Rattle.recover_run.specs.declared.home.Home.{Home}
 use Rattle.tree_walk.specs.Walk.{walk_next}
@@ -39,8 +39,8 @@ run_lease m reply = on m.0.hand
   where
     on : (hand : Hand) → RunLeaseStays (home_of m.0).lease (next_at hand m.0.draft m.1 reply)
     on Writes = wrote_lease (home_of m.0).lease m.0.draft m.1 (writing_next m.0.draft.writes reply) (next_lease m.0.draft.writes reply)
-    on (First w) = leads_lease (home_of m.0).lease m.0.draft.writes (walked true m.0.draft w m.1 reply) refl (turned_leads m.0.draft true (walk_next (w, m.1) reply))
-    on (Change w) = leads_lease (home_of m.0).lease m.0.draft.writes (walked false m.0.draft w m.1 reply) refl (turned_leads m.0.draft false (walk_next (w, m.1) reply))
+    on (First w) = leads_lease (home_of m.0).lease m.0.draft.writes (walked true m.0.draft w m.1 reply) refl (walked_leads m.0.draft true w m.1 reply)
+    on (Change w) = leads_lease (home_of m.0).lease m.0.draft.writes (walked false m.0.draft w m.1 reply) refl (walked_leads m.0.draft false w m.1 reply)
 
 -- also where it begins
 pub ready_lease : (home : Home) (changes : List Noted) (c : Cache) → RunLeaseStays home.lease (run_ready (new_run home changes, c))

@@ -7,7 +7,7 @@ use Rattle.commit_run.specs.declared.hand.Hand.TheVariants.{Writes, First, Chang
 use Rattle.commit_run.specs.Draft.{Draft}
 use Rattle.commit_run.specs.Run.{Run, new_run, home_of, wrote, walked, run_ready, next_at, run_next}
 use Rattle.commit_run.proofs.Outcomes as step
-use Rattle.commit_run.proofs.Outcomes.{NextRun, Leads, BeginsWith, records_of, taken, turned_leads, ready_leads}
+use Rattle.commit_run.proofs.Outcomes.{NextRun, Leads, BeginsWith, records_of, taken, walked_leads, ready_leads}
 use Rattle.commit_writes.proofs.Outcomes as written
 use Rattle.commit_writes.proofs.Outcomes.{Logs, Comes as Wrote, begins, comes as wrote_by}
 use Rattle.db_base.specs.declared.trouble.CommitAnswer.TheVariants.{Committed}
@@ -77,8 +77,8 @@ module _ (epoch number : ℕ) where
 
   turns_on : (hand : Hand) (d : Draft) (c : Cache) (a : Answer) → IsAt d.writes.home → RunsAt (next_at hand d c a)
   turns_on Writes d c a f = wrote_at d c (writing_next d.writes a) (writes_on d.writes a (writing_next d.writes a) f (wrote_by d.writes a))
-  turns_on (First w) d c a f = leads d.writes (walked true d w c a) f (turned_leads d true (walk_next (w, c) a))
-  turns_on (Change w) d c a f = leads d.writes (walked false d w c a) f (turned_leads d false (walk_next (w, c) a))
+  turns_on (First w) d c a f = leads d.writes (walked true d w c a) f (walked_leads d true w c a)
+  turns_on (Change w) d c a f = leads d.writes (walked false d w c a) f (walked_leads d false w c a)
 
 -- a commit that begins takes the next number
 abbrev pub BeginsAt : ℕ → ℕ → Next (Run × Cache) CommitAnswer → Type 0

@@ -9,7 +9,7 @@ use Rattle.commit_run.specs.declared.hand.Hand.TheVariants.{Writes, First, Chang
 use Rattle.commit_run.specs.Draft.{Draft}
 use Rattle.commit_run.specs.Run.{Run, new_run, home_of, wrote, walked, run_ready, next_at, run_next}
 use Rattle.commit_run.proofs.Outcomes as step
-use Rattle.commit_run.proofs.Outcomes.{NextRun, Leads, BeginsWith, records_of, taken, turned_leads, ready_leads}
+use Rattle.commit_run.proofs.Outcomes.{NextRun, Leads, BeginsWith, records_of, taken, walked_leads, ready_leads}
 use Rattle.commit_writes.proofs.Outcomes as written
 use Rattle.commit_writes.proofs.Outcomes.{Logs, Comes as Wrote, begins, comes as wrote_by}
 use Rattle.page_cache.specs.Cache.{Cache}
@@ -84,8 +84,8 @@ module _ (epoch bound : ℕ) where
 
   turns_on : (hand : Hand) (d : Draft) (c : Cache) (a : Answer) → d.writes.home.head.epoch ≡ epoch → bound ≤ later_of (record { draft = d; hand = hand }) → RunsFrom (next_at hand d c a)
   turns_on Writes d c a e b = wrote_from d c (writing_next d.writes a) (writes_on d.writes a (writing_next d.writes a) e b (omega (arith, b, later_most d.writes.stage d.writes)) (wrote_by d.writes a))
-  turns_on (First w) d c a e b = leads d.writes (walked true d w c a) (record { epoch_is = e; from = b }) (turned_leads d true (walk_next (w, c) a))
-  turns_on (Change w) d c a e b = leads d.writes (walked false d w c a) (record { epoch_is = e; from = b }) (turned_leads d false (walk_next (w, c) a))
+  turns_on (First w) d c a e b = leads d.writes (walked true d w c a) (record { epoch_is = e; from = b }) (walked_leads d true w c a)
+  turns_on (Change w) d c a e b = leads d.writes (walked false d w c a) (record { epoch_is = e; from = b }) (walked_leads d false w c a)
 
 -- a commit that begins takes a number above the last
 pub run_begins_from : (home : Home) (changes : List Noted) (c : Cache) → RunsFrom home.head.epoch (home.attempt + 1) (run_ready (new_run home changes, c))

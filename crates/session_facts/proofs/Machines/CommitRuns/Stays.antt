@@ -4,11 +4,11 @@ use Rattle.cloud_facts.specs.Words.{Trouble, CommitAnswer, Answer, Next, Goes, E
 use Rattle.commit_run.specs.declared.hand.Hand.{Hand}
 use Rattle.commit_run.specs.declared.hand.Hand.TheVariants.{Writes, First, Change}
 use Rattle.commit_run.specs.Draft.{Draft}
-use Rattle.commit_run.specs.Run.{Run, new_run, home_of, wrote, by_turn, walk_turned, run_ready, next_at, run_next}
+use Rattle.commit_run.specs.Run.{Run, new_run, home_of, wrote, walked, run_ready, next_at, run_next}
 use Rattle.commit_writes.proofs.Outcomes.{begins}
 use Rattle.commit_writes.specs.Writing.{Writing, begun, writing_next}
 use Rattle.commit_run.proofs.Outcomes as step
-use Rattle.commit_run.proofs.Outcomes.{NextRun, Leads, BeginsWith, records_of, taken, turned_leads, ready_leads}
+use Rattle.commit_run.proofs.Outcomes.{NextRun, Leads, BeginsWith, records_of, taken, walked_leads, ready_leads}
 use Rattle.db_base.specs.declared.trouble.Trouble.TheVariants as trouble
 use Rattle.db_base.specs.declared.trouble.Counter.TheVariants as counter
 use Rattle.db_base.specs.declared.trouble.CommitAnswer.TheVariants.{NotCommitted}
@@ -59,8 +59,8 @@ module _ (changes : List Noted) (client : ℕ) where
   leads w x f (step.refuses e k t kept other) = (kept.client ∙ f.client_is, (t, refl))
   leads w x f (step.lacks e k kept) = refl
 
-  pub turns : (first : Bool) (d : Draft) (n : Next (Walk × Cache) ℕ) → IsFor d.writes → Refuses (by_turn (walk_turned first d) n)
-  turns first d n f = leads d.writes (by_turn (walk_turned first d) n) f (turned_leads d first n)
+  pub turns : (first : Bool) (d : Draft) (w : Walk) (c : Cache) (a : Answer) → IsFor d.writes → Refuses (walked first d w c a)
+  turns first d w c a f = leads d.writes (walked first d w c a) f (walked_leads d first w c a)
 
   -- after a write
   writes : (d : Draft) (c : Cache) (n : Next Writing CommitAnswer) → WritesFor changes client n → RunsFor AnyAnswer changes client (wrote d c n)
@@ -88,5 +88,5 @@ runs_on m a is = on m.0.hand is
 
     on : (hand : Hand) → IsRunning (record { draft = m.0.draft; hand = hand }) → RunsFor AnyAnswer changes client (next_at hand m.0.draft m.1 a)
     on Writes at = writes changes client m.0.draft m.1 (writing_next m.0.draft.writes a) (writes_on m.0.draft.writes a at)
-    on (First w) at = any changes client _ (turns changes client true m.0.draft (walk_next (w, m.1) a) same)
-    on (Change w) at = any changes client _ (turns changes client false m.0.draft (walk_next (w, m.1) a) same)
+    on (First w) at = any changes client _ (turns changes client true m.0.draft w m.1 a same)
+    on (Change w) at = any changes client _ (turns changes client false m.0.draft w m.1 a same)

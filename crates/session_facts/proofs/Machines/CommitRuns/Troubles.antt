@@ -10,7 +10,7 @@ use Rattle.commit_run.specs.Draft.{Draft}
 use Rattle.commit_run.specs.Run.{Run, new_run, wrote, walked, run_ready, next_at, run_next}
 use Rattle.commit_writes.specs.Writing.{Writing, writing_next}
 use Rattle.commit_run.proofs.Outcomes as step
-use Rattle.commit_run.proofs.Outcomes.{NextRun, Leads, BeginsWith, taken, turned_leads, ready_leads}
+use Rattle.commit_run.proofs.Outcomes.{NextRun, Leads, BeginsWith, taken, walked_leads, ready_leads}
 use Rattle.commit_writes.proofs.Outcomes as written
 use Rattle.commit_writes.proofs.Outcomes.{Leaves, Comes as Wrote, comes as wrote_by}
 use Rattle.db_base.specs.declared.trouble.CommitAnswer.TheVariants.{NotCommitted, CommittedOpen}
@@ -104,8 +104,8 @@ run_tells m reply found = on m.0.hand
   where
     on : (hand : Hand) → EndsTold (next_at hand m.0.draft m.1 reply)
     on Writes = wrote_told m.0.draft m.1 (writing_next m.0.draft.writes reply) (writes_tell m.0.draft.writes reply (writing_next m.0.draft.writes reply) (wrote_by m.0.draft.writes reply))
-    on (First w) = leads_told m.0.draft.writes (walked true m.0.draft w m.1 reply) (turned_leads m.0.draft true (walk_next (w, m.1) reply))
-    on (Change w) = leads_told m.0.draft.writes (walked false m.0.draft w m.1 reply) (turned_leads m.0.draft false (walk_next (w, m.1) reply))
+    on (First w) = leads_told m.0.draft.writes (walked true m.0.draft w m.1 reply) (walked_leads m.0.draft true w m.1 reply)
+    on (Change w) = leads_told m.0.draft.writes (walked false m.0.draft w m.1 reply) (walked_leads m.0.draft false w m.1 reply)
 
 -- a commit as it begins
 pub ready_tells : (home : Home) (changes : List Noted) (c : Cache) → EndsTold (run_ready (new_run home changes, c))

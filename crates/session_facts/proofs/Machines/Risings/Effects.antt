@@ -1,5 +1,5 @@
 -- The puts of the way up: which is in hand, and what is owed for it where it lands.
-use Rattle.std.proofs.Common.{◌≡◌, ◌<◌, ◌≤◌, ◌==◌, ℕ, Bool, true, false, cond, not, ◌&&◌, ◌||◌, List, [], ◌∷◌, length, map, reverse, Option, Some, None, refl, sym, ap, ◌∙◌, arith}
+use Rattle.std.proofs.Common.{◌≡◌, ◌<◌, ◌≤◌, ◌==◌, ℕ, Bool, true, false, cond, not, ◌&&◌, ◌||◌, List, [], ◌∷◌, length, map, reverse, Option, Some, None, Ok, refl, sym, ap, ◌∙◌, arith}
 use Rattle.std.specs.Prelude.{unwrap_or, is_none, is_some}
 use Rattle.std.proofs.lemmas.Bool.{ne_eqb}
 use Rattle.std.proofs.lemmas.List.{length-reverse}
@@ -25,7 +25,9 @@ use Rattle.cloud_facts.proofs.Tellings.Ready.{branch_first}
 use Rattle.tree_phases.specs.Placing.{put_next, put_first, has_nothing}
 use Rattle.tree_phases.specs.Reserve.{version_spent}
 use Rattle.tree_phases.specs.declared.rising.Rising.{Rising}
-use Rattle.tree_phases.specs.Rising.{last_ask, rising_ask, rise, landed, put_next as put_then, after_put, put_landed}
+use Rattle.tree_phases.specs.Rising.{RisingStep, last_ask, rising_ask, rise, landed, put_landed}
+use Rattle.tree_ckpt.proofs.RiseOutcomes.{Lands, lands, rises_rise}
+use Rattle.tree_ckpt.proofs.RiseOutcomes as climb
 use Rattle.cloud_facts.specs.Calls.Links.{in_hand_at, OwesLease}
 use Rattle.session_facts.specs.Machines.Risings.Knows.{RisesOn}
 
@@ -63,36 +65,45 @@ has_page r some = on (is_none r.placing.reserved)
 pub has_reservation : (r : Rising) (bytes : List ℕ) → r.placing.reserved ≡ Some bytes → has_nothing r.placing ≡ false
 has_reservation r bytes some = ap (λ (o : Option (List ℕ)). is_none o && (length r.placing.puts == 0)) some
 
-goes : (r : Rising) → has_nothing r.placing ≡ false → put_landed r ≡ after_put (landed r)
-goes r full = ap (λ (b : Bool). cond b (Ends r tt) (after_put (landed r))) full
-
 -- another page
 pub goes_on : (r : Rising) → has_nothing r.placing ≡ false → ((landed r).placing.puts ≡ [] → ⊥) → put_landed r ≡ Goes (landed r)
-goes_on r full more =
-    goes r full
-    ∙ ap (λ (b : Bool). cond (not b || is_some r.last) (cond (b && r.is_spent) (Stops (landed r) version_spent) (Goes (landed r))) (rise (landed r)))
-    (some_left (landed r).placing.puts more)
+goes_on r full more = on (lands r (Ok tt))
+  where
+    left : has_nothing (landed r).placing ≡ false
+    left = some_left (landed r).placing.puts more
+
+    on : {next : RisingStep} → Lands r (Ok tt) next → next ≡ Goes (landed r)
+    on (climb.is_last x none) = absurd (cc (none, full))
+    on (climb.more x some rising) = refl
+    on (climb.cut_short x some nothing last spent) = absurd (let e = left in cc (nothing, e))
+    on (climb.goes_on x some nothing between up) = absurd (let e = left in cc (nothing, e))
 
 -- what is left is put before the last root
-last_next : (r : Rising) (bytes : List ℕ) → has_nothing r.placing ≡ false → r.last ≡ Some bytes → put_landed r ≡ put_then (landed r)
-last_next r bytes full last =
-    goes r full
-    ∙ (ap (λ (o : Option (List ℕ)). cond (not (has_nothing (landed r).placing) || is_some o) (put_then (landed r)) (rise (landed r))) last ∙ either (not (has_nothing (landed r).placing)))
-  where
-    either : (b : Bool) → cond (b || true) (put_then (landed r)) (rise (landed r)) ≡ put_then (landed r)
-    either true = refl
-    either false = refl
-
-next_by : (r : Rising) (b : Bool) → (has_nothing (landed r).placing && r.is_spent) ≡ b → put_then (landed r) ≡ cond b (Stops (landed r) version_spent) (Goes (landed r))
-next_by r b e = ap (λ (c : Bool). cond c (Stops (landed r) version_spent) (Goes (landed r))) e
-
 pub goes_last : (r : Rising) (bytes : List ℕ) → has_nothing r.placing ≡ false → r.last ≡ Some bytes → (has_nothing (landed r).placing && r.is_spent) ≡ false → put_landed r ≡ Goes (landed r)
-goes_last r bytes full last more = last_next r bytes full last ∙ next_by r false more
+goes_last r bytes full last more = on (lands r (Ok tt))
+  where
+    on : {next : RisingStep} → Lands r (Ok tt) next → next ≡ Goes (landed r)
+    on (climb.is_last x none) = absurd (cc (none, full))
+    on (climb.more x some rising) = refl
+    on (climb.cut_short x some nothing behind spent) = absurd (let both : true ≡ false = sym (ap (λ (b : Bool). b && r.is_spent) nothing ∙ spent) ∙ more in cc (both))
+    on (climb.goes_on x some nothing between up) = absurd (let none : None ≡ Some bytes = sym between ∙ last in cc (none))
+
+never_rising : (nothing spent some : Bool) → (nothing && spent) ≡ true → (not nothing || (some && not spent)) ≡ true → ⊥
+never_rising true true true e rising = absurd (cc (rising))
+never_rising true true false e rising = absurd (cc (rising))
+never_rising true false some e rising = absurd (cc (e))
+never_rising false spent some e rising = absurd (cc (e))
 
 -- no version is left for it
 pub stops_last : (r : Rising) (bytes : List ℕ) → has_nothing r.placing ≡ false → r.last ≡ Some bytes → (has_nothing (landed r).placing && r.is_spent) ≡ true
     → put_landed r ≡ Stops (landed r) version_spent
-stops_last r bytes full last none = last_next r bytes full last ∙ next_by r true none
+stops_last r bytes full last none = on (lands r (Ok tt))
+  where
+    on : {next : RisingStep} → Lands r (Ok tt) next → next ≡ Stops (landed r) version_spent
+    on (climb.is_last x nothing) = absurd (cc (nothing, full))
+    on (climb.more x some rising) = absurd (never_rising (has_nothing (landed r).placing) r.is_spent (is_some r.last) none rising)
+    on (climb.cut_short x some nothing behind spent) = refl
+    on (climb.goes_on x some nothing between up) = absurd (let clash : None ≡ Some bytes = sym between ∙ last in cc (clash))
 
 pub never_both : (b spent : Bool) → spent ≡ false → (b && spent) ≡ false
 never_both true spent e = e
@@ -100,16 +111,31 @@ never_both false spent e = refl
 
 -- nothing is left of a node
 pub goes_up : (r : Rising) → has_nothing r.placing ≡ false → (landed r).placing.puts ≡ [] → r.last ≡ None → put_landed r ≡ rise (landed r)
-goes_up r full empty none =
-    goes r full
-    ∙ (ap (λ (l : List PagePut). cond (not (length l == 0) || is_some r.last) (cond ((length l == 0) && r.is_spent) (Stops (landed r) version_spent) (Goes (landed r))) (rise (landed r))) empty
-    ∙ ap (λ (o : Option (List ℕ)). cond (is_some o) (cond r.is_spent (Stops (landed r) version_spent) (Goes (landed r))) (rise (landed r))) none)
+goes_up r full empty none = on (lands r (Ok tt))
+  where
+    gone : has_nothing (landed r).placing ≡ true
+    gone = ap (λ (l : List PagePut). length l == 0) empty
+
+    on : {next : RisingStep} → Lands r (Ok tt) next → next ≡ rise (landed r)
+    on (climb.is_last x nothing) = absurd (cc (nothing, full))
+    on (climb.more x some rising) =
+        absurd (let never : false ≡ true = sym (ap (λ (b : Bool). not b || (is_some r.last && not r.is_spent)) gone ∙ ap (λ (o : Option (List ℕ)). is_some o && not r.is_spent) none) ∙ rising in
+        cc (never))
+    on (climb.cut_short x some nothing behind spent) = absurd (let no : is_some r.last ≡ false = ap (λ (o : Option (List ℕ)). is_some o) none in cc (behind, no))
+    on (climb.goes_on x some nothing between up) = sym (rises_rise up)
 
 -- nothing is left at all
 pub ends_now : (r : Rising) → r.placing.reserved ≡ None → r.placing.puts ≡ [] → put_landed r ≡ Ends r tt
-ends_now r none empty =
-    ap (λ (o : Option (List ℕ)). cond (is_none o && (length r.placing.puts == 0)) (Ends r tt) (after_put (landed r))) none
-    ∙ ap (λ (l : List PagePut). cond (length l == 0) (Ends r tt) (after_put (landed r))) empty
+ends_now r none empty = on (lands r (Ok tt))
+  where
+    gone : has_nothing r.placing ≡ true
+    gone = ap (λ (o : Option (List ℕ)). is_none o && (length r.placing.puts == 0)) none ∙ ap (λ (l : List PagePut). length l == 0) empty
+
+    on : {next : RisingStep} → Lands r (Ok tt) next → next ≡ Ends r tt
+    on (climb.is_last x nothing) = refl
+    on (climb.more x some rising) = absurd (let e = gone in cc (some, e))
+    on (climb.cut_short x some nothing behind spent) = absurd (let e = gone in cc (some, e))
+    on (climb.goes_on x some nothing between up) = absurd (let e = gone in cc (some, e))
 
 -- the piece of a page is still to be put
 pub some_puts : (bytes : NodePart → List ℕ) (page first : ℕ) (front : NodePart) (middle : List NodePart) → reverse (map (put_of bytes) (on_pages page first (front ∷ middle))) ≡ [] → ⊥

@@ -32,13 +32,14 @@ use Rattle.tree_ckpt.specs.Making.{Making, making_ask, MakingLeads}
 use Rattle.tree_ckpt.specs.Leases.{HasIds}
 use Rattle.tree_ckpt.proofs.Outcomes.{Seeks, Descends, Ascends, Clears, Fails, Comes, comes}
 use Rattle.tree_ckpt.proofs.Outcomes as step
+use Rattle.tree_ckpt.proofs.Failing.{kept_leads}
 use Rattle.tree_ckpt.proofs.RiseOutcomes.{rises, lands}
 use Rattle.tree_ckpt.proofs.WayOutcomes.{gets}
 use Rattle.tree_phases.specs.declared.descent.Descent.{Descent}
 use Rattle.tree_ckpt.specs.declared.work.Held.{Held}
 use Rattle.tree_ckpt.specs.declared.work.Work.{Work}
 use Rattle.tree_ckpt.specs.declared.work.Work.TheVariants as work
-use Rattle.tree_ckpt.specs.Moves.{Step, released_by, went, tree_damage, Leads}
+use Rattle.tree_ckpt.specs.Moves.{Step, stopping, went, tree_damage, Leads}
 use Rattle.tree_ckpt.specs.Work.{take_tree, delete_ask, work_ask}
 use Rattle.tree_phases.specs.declared.chart.Chart.{Chart}
 use Rattle.tree_phases.specs.Placing.{has_nothing}
@@ -307,14 +308,12 @@ module _ (who : Caller) (before after : Seen) (s t : CloudState) (told : before.
 
 -- ---- a trouble that waits
 
-released_keeps : (held : Leases) (q k : Trouble) (lease : Option Claim) → q ≡ k → MeetsNext trouble_at (released_by held (Err q) lease) k
-released_keeps held q k (Some l) e = ap (λ (x : Trouble). Some x) e
-released_keeps held q k None e = e
-
 -- it waits where leases are given back, and nowhere else
 work_keeps : (tree : ℕ) (w : Work) (a : Answer) (next : Step) → Leads tree w a next → (k : Trouble) → trouble_at w ≡ Some k → MeetsNext trouble_at next k
-work_keeps tree (work.Releasing held (Err q)) a next leads k e =
-    subst (λ (x : Step). MeetsNext trouble_at x k) (sym leads) (released_keeps (without_newest held) q k (newest_lease (without_newest held)) (cc (e)))
+work_keeps tree (work.Releasing held (Err q)) a next leads k e = on (kept_leads tree held q a leads) where
+  on : (next ≡ stopping (without_newest held) q) ⊎ (next ≡ Stops work.Finished q) → MeetsNext trouble_at next k
+  on (inl is) = subst (λ (x : Step). MeetsNext trouble_at x k) (sym is) e
+  on (inr is) = subst (λ (x : Step). MeetsNext trouble_at x k) (sym is) (cc (e))
 work_keeps tree w a next leads k e = absurd (cc (e))
 
 pub making_keeps : (m : Making) (a : Answer) (next : Next Making CkptAnswer) → MakingLeads m a next → (k : Trouble) → trouble_of_making m ≡ Some k → MeetsNext trouble_of_making next k

@@ -29,6 +29,7 @@ use Rattle.session_facts.proofs.Machines.TreeCheckpoints.Stops.{StopsWell, desce
 use Rattle.session_facts.proofs.Machines.Refusals.{got_may}
 use Rattle.session_facts.proofs.Machines.Trees.Strides.{arrives}
 use Rattle.session_facts.proofs.Machines.Trees.Ways.{way_begins, got_leads}
+use Rattle.tree_ckpt.proofs.WayOutcomes.{gets}
 use Rattle.session_facts.proofs.Machines.Trees.WayCharts.{LeadsApart, KnowsDescent, arrive_apart, descent_apart, descent_known}
 use Rattle.tree_ckpt.specs.declared.work.Held.{Held}
 use Rattle.tree_ckpt.specs.declared.work.Work.{Work}
@@ -130,5 +131,5 @@ module _ (who : Caller) (s t : CloudState) (book : Book) (order : List Change) (
   down k call (step.goes_on h d a) =
       let rest = k.1.rest in
       is_down h d.chart (λ trouble. got_of a ≡ Err trouble) (got_may tree_refusals a) k.0 rest.run k.1.least (descent_apart d a rest.apart k.1.fresh)
-      (got_leads book order s stands t.now h.lease d (record { chart = rest.chart; way = k.1.way }) k.1.above (got_of a)
-      (λ v. held_seen who (object.Page d.chart.tree d.page) h.lease a s t call v))
+      (got_leads book order s stands t.now h.lease d (record { chart = rest.chart; way = k.1.way }) k.1.above
+      (λ v. held_seen who (object.Page d.chart.tree d.page) h.lease a s t call v) (gets d (got_of a)))

@@ -68,7 +68,7 @@ module _ (st : Store) (now : ℕ) (lease : Claim) (h : ChainHolds st) where
       same_Ok f g e = cc (e)
 
   -- the way ends at a node that is to be got, or at a leaf; it stops for nothing
-  arrives_on : (May : Trouble → Type 0) {d : Descent} {x : Next Descent (Unit {0})} → Arrives d x → KnowsWay st now lease d → WayLeads st now lease May x
+  pub arrives_on : (May : Trouble → Type 0) {d : Descent} {x : Next Descent (Unit {0})} → Arrives d x → KnowsWay st now lease d → WayLeads st now lease May x
   arrives_on May (way.at_leaf d level) k = (k, level)
   arrives_on May (way.at_node d fresh none) k = let above = fresh.0 in (k, omega (arith, above))
   arrives_on May (way.round d above seen) k = absurd (never_seen d k seen)

@@ -1,5 +1,5 @@
 -- The way down from the root to a leaf: where it begins, and where the held get of a node leads.
-use Rattle.std.proofs.Common.{◌≡◌, ◌≢◌, ◌-◌, ◌<◌, ◌⊎◌, inl, inr, ℕ, zero, suc, List, [], ◌∷◌, ◌++◌, take, drop, Option, Some, None, Result, Ok, Err, refl, sym, subst, arith, take-append-drop}
+use Rattle.std.proofs.Common.{◌≡◌, ◌≢◌, ◌-◌, ◌<◌, ◌⊎◌, inl, inr, ℕ, zero, suc, List, [], ◌∷◌, ◌++◌, take, drop, Option, Some, None, Result, Ok, Err, refl, sym, subst, ◌∙◌, arith, take-append-drop}
 use Rattle.cloud_facts.specs.Chains.Chain.{IsChained}
 use Rattle.cloud_facts.specs.Chains.Links.{newest_node, IsOfLevel}
 use Rattle.cloud_facts.proofs.Chains.Newest.{newest_is, last_in}
@@ -7,7 +7,7 @@ use Rattle.cloud_facts.proofs.Chains.GoneLemmas.{links_kept}
 use Rattle.cloud_facts.specs.Meanings.Meets.{IsAt}
 use Rattle.cloud_facts.proofs.Meanings.Stale.{stale_root, absent_root}
 use Rattle.cloud_facts.proofs.Meanings.Steps.{from_root, from_none}
-use Rattle.cloud_facts.specs.Words.{Trouble, Entry as Change, Inner, Tree, CloudState, newest, Claim, Book, Link, Store, Node, Leafy, Branch, IsIn, nodes_of, roots_of, store_of, StandsUnder}
+use Rattle.cloud_facts.specs.Words.{Trouble, Entry as Change, Inner, Tree, CloudState, newest, Claim, Next, Book, Link, Store, Node, Leafy, Branch, IsIn, nodes_of, roots_of, store_of, StandsUnder}
 use Rattle.db_base.specs.declared.names.ObjName.TheVariants as object
 use Rattle.cloud_facts.specs.Decoding.Kinds.{IsNode}
 use Rattle.cloud_facts.proofs.Decoding.Values.{newest_page_decodes}
@@ -17,7 +17,8 @@ use Rattle.node_codec.specs.Node.{Entry, child_of}
 use Rattle.cloud_facts.specs.Book.Telling.{newest_root}
 use Rattle.cloud_facts.proofs.Book.Places.{in_either, in_front, in_behind, in_none}
 use Rattle.tree_phases.specs.declared.descent.Descent.{Descent}
-use Rattle.tree_phases.specs.Descent.{begun, fork_of, passed, with_node, got_node, descent_got}
+use Rattle.tree_phases.specs.Descent.{begun, passed, with_node}
+use Rattle.tree_phases.specs.declared.fork.Fork.{Fork}
 use Rattle.tree_phases.specs.Fork.{forked_on}
 use Rattle.tree_phases.proofs.Reading.{inner_is}
 use Rattle.tree_phases.specs.declared.chart.Chart.{Chart}
@@ -27,7 +28,9 @@ use Rattle.tree_phases.specs.Read.{tree_held}
 use Rattle.session_facts.specs.Machines.Trees.Charts.{IsRootOf, KnowsNode, KnowsNodes, KnowsChart}
 use Rattle.session_facts.specs.Machines.Trees.Ways.{KnowsWay, WayLeads}
 use Rattle.cloud_facts.proofs.Calls.Pages.{none_landed}
-use Rattle.session_facts.proofs.Machines.Trees.Strides.{bytes_lead, arrives}
+use Rattle.session_facts.proofs.Machines.Trees.Strides.{bytes_lead, arrives_on}
+use Rattle.tree_ckpt.proofs.WayOutcomes.{Reads, Gets, reads_fork}
+use Rattle.tree_ckpt.proofs.WayOutcomes as way
 
 -- ---- from the root
 
@@ -128,24 +131,30 @@ module _ (book : Book) (order : List Change) (s : CloudState) (stands : StandsUn
     way = k.way;
   }
 
+  -- what is read of the node leads on
+  bytes_on : {r : Result Fork Trouble} (bytes : List ℕ) → Some bytes ≡ newest s (object.Page d.chart.tree d.page) → Reads d bytes r → r ≡ Ok (forked_on d.chart.key node.0)
+  bytes_on bytes is r =
+      sym (reads_fork r)
+      ∙ (bytes_lead st now lease stands.holds.chains d bytes node.0 k (inner_is d.chart.tree d.page bytes node.0 (spelled bytes (sym is))) landed).0
+
+  behind_knows : (bytes : List ℕ) → Some bytes ≡ newest s (object.Page d.chart.tree d.page) → KnowsWay st now lease (passed (with_node d bytes) (forked_on d.chart.key node.0))
+  behind_knows bytes is =
+      (bytes_lead st now lease stands.holds.chains (with_node d bytes) bytes node.0 (with_known bytes (sym is))
+      (inner_is d.chart.tree d.page bytes node.0 (spelled bytes (sym is))) landed).1
+
+  never_absent : {X : Type 0} → None ≡ newest s (object.Page d.chart.tree d.page) → X
+  never_absent is = absurd (some (none_landed s d.chart.tree d.page stands.decodes (links_kept st stands.holds.gones d.chart.tree d.level link k.way.at.linked) (sym is)))
+
   -- the held get of a node leads on, and where it stops it was refused or failed
-  pub got_leads : (g : Result (Option (List ℕ)) Trouble) → ((v : Option (List ℕ)) → g ≡ Ok v → v ≡ newest s (object.Page d.chart.tree d.page))
-      → WayLeads st now lease (λ t. g ≡ Err t) (descent_got d g)
-  got_leads (Ok (Some bytes)) seen =
-      subst (λ x. WayLeads st now lease (λ t. Ok (Some bytes) ≡ Err t) (got_node d bytes x)) (sym here.0)
-      (arrives st now lease stands.holds.chains (λ t. Ok (Some bytes) ≡ Err t) (passed (with_node d bytes) (forked_on d.chart.key node.0)) there.1)
-    where
-      is : newest s (object.Page d.chart.tree d.page) ≡ Some bytes
-      is = sym (seen (Some bytes) refl)
-
-      reads : IsInner bytes node.0
-      reads = spelled bytes is
-
-      here : (fork_of d bytes ≡ Ok (forked_on d.chart.key node.0)) × KnowsWay st now lease (passed d (forked_on d.chart.key node.0))
-      here = bytes_lead st now lease stands.holds.chains d bytes node.0 k (inner_is d.chart.tree d.page bytes node.0 reads) landed
-
-      there : (fork_of (with_node d bytes) bytes ≡ Ok (forked_on d.chart.key node.0)) × KnowsWay st now lease (passed (with_node d bytes) (forked_on d.chart.key node.0))
-      there = bytes_lead st now lease stands.holds.chains (with_node d bytes) bytes node.0 (with_known bytes is) (inner_is d.chart.tree d.page bytes node.0 reads) landed
-  got_leads (Ok None) seen =
-      absurd (some (none_landed s d.chart.tree d.page stands.decodes (links_kept st stands.holds.gones d.chart.tree d.level link k.way.at.linked) (sym (seen None refl))))
-  got_leads (Err t) seen = refl
+  pub got_leads : {g : Result (Option (List ℕ)) Trouble} {next : Next Descent (Unit {0})} → ((v : Option (List ℕ)) → g ≡ Ok v → v ≡ newest s (object.Page d.chart.tree d.page))
+      → Gets d g next → WayLeads st now lease (λ t. g ≡ Err t) next
+  got_leads seen (way.goes_on bytes n f reads leads on) =
+      let is : Some bytes ≡ newest s (object.Page d.chart.tree d.page) = seen (Some bytes) refl in
+      let both : Ok f ≡ Ok (forked_on d.chart.key node.0) = bytes_on bytes is (way.leads n f reads leads) in
+      let same : f ≡ forked_on d.chart.key node.0 = cc (both) in
+      arrives_on st now lease stands.holds.chains (λ t. Ok (Some bytes) ≡ Err t) on
+      (subst (λ (x : Fork). KnowsWay st now lease (passed (with_node d bytes) x)) (sym same) (behind_knows bytes is))
+  got_leads seen (way.wrong bytes t r) = absurd (let clash : Err t ≡ Ok (forked_on d.chart.key node.0) = bytes_on bytes (seen (Some bytes) refl) r in cc (clash))
+  got_leads seen (way.no_root first) = never_absent (seen None refl)
+  got_leads seen (way.absent other) = never_absent (seen None refl)
+  got_leads seen (way.refused t) = refl

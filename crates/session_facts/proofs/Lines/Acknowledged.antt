@@ -35,7 +35,7 @@ use Rattle.session_facts.specs.Machines.CommitRuns.Knows.{KnowsHand, KnowsRun}
 use Rattle.session_facts.specs.Machines.Commits.Knows.{Attempt, attempt_of, IsLogged, HasCommitted, KnowsCommitAt}
 use Rattle.session_facts.specs.Lines.Facts.{IsPlaced, WorksAs, CloudHolds}
 use Rattle.session_facts.specs.Sessions.Knows.{Sessions, SessionsStand, KnowsWork}
-use Rattle.tree_walk.specs.Walk.{Walk, walk_next}
+use Rattle.tree_walk.specs.Walk.{Walk}
 use Rattle.txn_buffer.specs.Noted.{Noted}
 
 -- ---- entries

@@ -40,7 +40,7 @@ use Rattle.session_facts.specs.Machines.CommitRuns.Knows.{KnowsHand, KnowsRun}
 use Rattle.session_facts.specs.Lines.Facts.{IsPlaced, WorksAs, CloudHolds}
 use Rattle.session_facts.specs.Lines.LeftNone.{HasNone, HasLeftNone, LeavesNoneAt}
 use Rattle.session_facts.specs.Sessions.Knows.{Sessions, KnowsWork}
-use Rattle.tree_walk.specs.Walk.{object_of, walk_next}
+use Rattle.tree_walk.specs.Walk.{object_of}
 use Rattle.txn_buffer.specs.Noted.{Noted}
 use Rattle.std.proofs.lemmas.Option.{same_Some}
 

@@ -22,7 +22,7 @@ use Rattle.route_plan.specs.Queue.{queue_name}
 use Rattle.session_facts.proofs.Machines.Commits.Routes.{count_is}
 use Rattle.session_notes.specs.Metered.{sends_of}
 use Rattle.session_notes.specs.Notebook.{note_of_send}
-use Rattle.tree_walk.specs.Walk.{object_of, walk_next}
+use Rattle.tree_walk.specs.Walk.{object_of}
 use Rattle.txn_buffer.specs.Noted.{Noted}
 use Rattle.session_facts.specs.Writers.Sending.{ask_sends, sends_at, sends_left}
 

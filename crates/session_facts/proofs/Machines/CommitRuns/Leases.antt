@@ -12,7 +12,6 @@ use Rattle.commit_run.proofs.Outcomes as step
 use Rattle.commit_run.proofs.Outcomes.{NextRun, Leads, BeginsWith, records_of, taken, walked_leads, ready_leads}
 use Rattle.page_cache.specs.Cache.{Cache}
 use Rattle.recover_run.specs.declared.home.Home.{Home}
-use Rattle.tree_walk.specs.Walk.{walk_next}
 use Rattle.txn_buffer.specs.Noted.{Noted}
 
 -- the home's lease is this one where a step leads

@@ -13,7 +13,6 @@ use Rattle.commit_writes.proofs.Outcomes.{Logs, Comes as Wrote, begins, comes as
 use Rattle.db_base.specs.declared.trouble.CommitAnswer.TheVariants.{Committed}
 use Rattle.page_cache.specs.Cache.{Cache}
 use Rattle.recover_run.specs.declared.home.Home.{Home}
-use Rattle.tree_walk.specs.Walk.{walk_next}
 use Rattle.txn_buffer.specs.Noted.{Noted}
 
 module _ (epoch number : ℕ) where

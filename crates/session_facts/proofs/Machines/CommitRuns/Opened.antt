@@ -14,7 +14,6 @@ use Rattle.commit_writes.proofs.Outcomes as written
 use Rattle.commit_writes.proofs.Outcomes.{Logs, Comes as Wrote, begins, comes as wrote_by}
 use Rattle.page_cache.specs.Cache.{Cache}
 use Rattle.recover_run.specs.declared.home.Home.{Home}
-use Rattle.tree_walk.specs.Walk.{walk_next}
 use Rattle.txn_buffer.specs.Noted.{Noted}
 use Rattle.session_facts.specs.Rows.Opened.{first_at, first_of, later_at, later_of, TakesAt, TakesIn}
 

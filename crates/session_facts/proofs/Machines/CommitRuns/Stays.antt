@@ -15,7 +15,7 @@ use Rattle.db_base.specs.declared.trouble.CommitAnswer.TheVariants.{NotCommitted
 use Rattle.page_cache.specs.Cache.{Cache}
 use Rattle.recover_run.specs.declared.home.Home.{Home}
 use Rattle.session_facts.proofs.Machines.Commits.Routes.{count_is}
-use Rattle.tree_walk.specs.Walk.{Walk, walk_next}
+use Rattle.tree_walk.specs.Walk.{Walk}
 use Rattle.txn_buffer.specs.Noted.{Noted}
 use Rattle.session_facts.specs.Lines.Running.{IsRunning}
 use Rattle.session_facts.proofs.Machines.Commits.Stays.{WritesFor, logs_for, writes_on}

@@ -17,7 +17,6 @@ use Rattle.db_base.specs.declared.trouble.CommitAnswer.TheVariants.{NotCommitted
 use Rattle.db_base.specs.declared.trouble.Trouble.TheVariants as trouble
 use Rattle.page_cache.specs.Cache.{Cache}
 use Rattle.session_facts.proofs.Machines.CommitRuns.Nexts.{RunStep}
-use Rattle.tree_walk.specs.Walk.{walk_next}
 use Rattle.txn_buffer.specs.Noted.{Noted}
 
 -- a trouble that no call brings

@@ -6,7 +6,7 @@ use Rattle.ckpt_parts.specs.declared.leases.Leases.{Leases}
 use Rattle.ckpt_parts.specs.declared.intake.Intake.{Intake}
 use Rattle.ckpt_parts.specs.Deleting.{next_id, tried}
 use Rattle.ckpt_parts.specs.Intakes.{items_of, intake_of, message_damage, TakesItems}
-use Rattle.ckpt_parts.specs.Leasing.{newest_lease, without_newest}
+use Rattle.ckpt_parts.specs.Leasing.{without_newest}
 use Rattle.cloud_facts.specs.Words.{IsTree, Trouble, QueueName, PuItem, Answer, CloudState, called, newest, Caller, Seen, Claim, Ask, GetHeld, Receive, Next, Goes, Ends, Stops, done_of, got_of, Store}
 use Rattle.cloud_trait.specs.declared.answer.Answer.TheVariants.{Memory}
 use Rattle.cloud_trait.specs.declared.message.Message.{Message}

@@ -102,7 +102,7 @@ generated_within None count asked e = absurd (cc)
 generated_within (Some number) None asked e = absurd (cc)
 generated_within (Some number) (Some count) asked e =
     let p = if_some (nat_le count MAX_COUNT) (Gen number count) asked e in
-    let within : count ≤ 10000 = leb-true count 10000 p.0 in
+    let within : count ≤ MAX_COUNT = leb-true count MAX_COUNT p.0 in
     subst AsksWithin p.1 within
 
 shell_within : (client : Option ℕ) (dir : List ℕ) (asked : Shape) → shell_over client dir ≡ Some asked → AsksWithin asked

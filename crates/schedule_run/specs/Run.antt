@@ -5,6 +5,7 @@ use Rattle.command_words.specs.declared.shape.Shape.TheVariants.{Replay, Gen, Sh
 use Rattle.db_io.specs.Content.{Told, Takes}
 use Rattle.db_io.specs.Input.{AreAll}
 use Rattle.db_io.specs.declared.input.InputFault.{InputFault}
+use Rattle.command_words.specs.declared.read.TheConstants.{MAX_COUNT}
 use Rattle.db_io.specs.declared.input.TheConstants.{MAX_LINES, MAX_DUMP}
 use Rattle.db_io.specs.declared.output.OutputFault.{OutputFault}
 use Rattle.sched_gen.specs.Schedule.{schedule}
@@ -77,7 +78,7 @@ pub record WasBad (IsBad : List ℕ → Type 0) (before after : Told) : Type 0 w
 
 -- no more rounds are asked for than are generated
 abbrev pub AsksWithin : Shape → Type 0
-AsksWithin (Gen number count) = count ≤ 10000
+AsksWithin (Gen number count) = count ≤ MAX_COUNT
 AsksWithin (Shell client dir) = Unit {0}
 AsksWithin (Settle dir) = Unit {0}
 AsksWithin (Dump dir) = Unit {0}

@@ -1,4 +1,5 @@
 ghost use Rattle.std.specs.Prelude.{◌≡◌, ◌≤◌, ◌<◌, ◌+◌, ◌⊎◌, false, [], ◌∷◌, ◌++◌, Err};
+ghost use Rattle.command_words.specs.declared.read.TheConstants.{MAX_COUNT};
 ghost use Rattle.db_io.specs.Output.{WasWritten};
 ghost use Rattle.schedule_run.specs.Outside.{effects};
 ghost use Rattle.schedule_run.specs.Play.{IsFresh};
@@ -29,7 +30,7 @@ pub fn generate<O: Sink, C: Bench>(
     sink: &mut O,
     cloud: &mut C,
 ) -> Result<(), OutputFault>
-    requires { count ≤ 10000 }
+    requires { count ≤ MAX_COUNT }
     ensures write_fault { result ≡ Err OutputFault.WriteFault
         → (O.told sink.old).faults < (O.told sink.new).faults }
     ensures writes { (result ≡ Err OutputFault.WriteFault)

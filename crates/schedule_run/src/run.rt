@@ -1,5 +1,6 @@
 ghost use Rattle.std.specs.Prelude.{◌≡◌, ◌<◌, ◌≤◌, ◌⊎◌, Some, None, map, string_bytes};
 ghost use Rattle.command_words.specs.Words.{shape_of};
+ghost use Rattle.command_words.specs.declared.read.TheConstants.{MAX_COUNT};
 ghost use Rattle.db_io.specs.declared.input.TheConstants.{MAX_DUMP, MAX_LINES};
 ghost use Rattle.schedule_run.specs.Outside.{effects, outside};
 ghost use Rattle.schedule_run.specs.Loading.{SpellsNoDump};
@@ -201,7 +202,7 @@ fn generated<O: Sink, C: Bench>(
     sink: &mut O,
     cloud: &mut C,
 ) -> Status
-    requires { count ≤ 10000 }
+    requires { count ≤ MAX_COUNT }
     ensures only { IsOfSchedule result }
     ensures write_fault { result ≡ Status.WriteFault
         → (O.told sink.old).faults < (O.told sink.new).faults }

@@ -29,7 +29,7 @@ use Rattle.world_core.specs.Passed.{AskedPassed}
 use Rattle.world_core.specs.Handled.{SettlesOn, Settles as SettlesLine, Answers, Handled}
 use Rattle.world_core.specs.Replying.{RepliesSettled, unsettled_reply}
 use Rattle.world_core.specs.Stands.{LeftIsRight}
-use Rattle.world_core.specs.World.{World}
+use Rattle.world_core.specs.World.{World, all_sessions}
 use Rattle.world_core.specs.declared.asked.Asked.{Asked}
 use Rattle.world_core.specs.declared.asked.Asked.TheVariants.{Session, Wait, Report, Settle, Sweep}
 use Rattle.world_core.specs.declared.world.WorldFault.{WorldFault}
@@ -48,7 +48,7 @@ pub new_on_book : {blind : Bool} → (world : World) (t : CloudState) → IsNew 
 new_on_book world t fresh runs = subst (λ (f : Sessions). SomeBookStands f t) (sym alike) (left_by_runs t runs)
   where
     closed : (n : ℕ) → session_at world.sessions n ≡ closed_session
-    closed n = ap (λ (l : List Acting). session_at l n) fresh.sessions ∙ closed_at 17 n
+    closed n = ap (λ (l : List Acting). session_at l n) fresh.sessions ∙ closed_at all_sessions n
 
     alike : session_at world.sessions ≡ (λ n. closed_session)
     alike = λ i n. closed n i

@@ -30,7 +30,7 @@ use Rattle.session_facts.specs.Sessions.Untroubled.{IsUntroubled, IsSpent}
 use Rattle.world_core.specs.Calm.{StepIsCalm, RepliesWell, RunsWell, work_at}
 use Rattle.world_core.specs.EachStep.{EachStep}
 use Rattle.world_core.specs.Handled.{Handled}
-use Rattle.world_core.specs.World.{World}
+use Rattle.world_core.specs.World.{World, all_sessions}
 use Rattle.world_core.specs.Span.{span_of}
 use Rattle.schedule_run.specs.Answered.{IsNew, WentOn, start, further, AreExplained, IsExplained}
 use Rattle.schedule_run.specs.InPlay.{Play}
@@ -163,7 +163,7 @@ module _ (s : Seen) (first : World) (x : CloudState) (fresh : IsNew true first) 
   left_told lines t world went = let left = lines_left lines s t first world went fresh x told (inl empty) in (left.0, left.1)
 
   closed : (n : ℕ) → session_at first.sessions n ≡ closed_session
-  closed n = ap (λ (l : List Acting). session_at l n) fresh.sessions ∙ closed_at 17 n
+  closed n = ap (λ (l : List Acting). session_at l n) fresh.sessions ∙ closed_at all_sessions n
 
   rests_well : (u : CloudState) (a : Acting) → a ≡ closed_session → IsUntroubled u a.work
   rests_well u a is = subst (λ (b : Acting). IsUntroubled u b.work) (sym is) (record { trouble = λ k has. absurd (cc); left = refl })

@@ -12,7 +12,7 @@ use Rattle.session_facts.specs.Rows.Opened.{AddsNoneTwice}
 use Rattle.session_facts.proofs.Rows.Added.{adds_nothing as nothing_added}
 use Rattle.session_facts.proofs.Rows.Opened.{apart_nothing}
 use Rattle.session_facts.proofs.Lines.Start.{closed_at}
-use Rattle.world_core.specs.World.{World}
+use Rattle.world_core.specs.World.{World, all_sessions}
 use Rattle.world_core.specs.declared.world.WorldFault.{WorldFault}
 use Rattle.world_core.specs.Added.{WorldAdds}
 use Rattle.world_core.specs.Handled.{Handled}
@@ -74,7 +74,7 @@ once_push (x ∷ events) e once new =
 -- ---- from a new world on
 
 fresh_closed : {blind : Bool} → (world : World) → IsNew blind world → (n : ℕ) → session_at world.sessions n ≡ closed_session
-fresh_closed world fresh n = ap (λ (l : List Acting). session_at l n) fresh.sessions ∙ closed_at 17 n
+fresh_closed world fresh n = ap (λ (l : List Acting). session_at l n) fresh.sessions ∙ closed_at all_sessions n
 
 -- a new world added nothing to any cloud
 fresh_adds : {blind : Bool} → (s : Seen) (world : World) (t : CloudState) → s.state ≡ Some t → IsNew blind world → WorldAdds [] t world s

@@ -21,7 +21,7 @@ use Rattle.session_facts.specs.Lines.LeftNone.{IsLeftReply}
 use Rattle.session_facts.specs.Rows.Opened.{AddsNoneTwice}
 use Rattle.session_facts.specs.Sessions.Untroubled.{IsUntroubled}
 use Rattle.session_notes.specs.Notebook.{blank}
-use Rattle.world_core.specs.World.{World}
+use Rattle.world_core.specs.World.{World, all_sessions}
 use Rattle.world_core.specs.declared.world.WorldFault.{WorldFault}
 use Rattle.world_core.specs.Added.{WorldAdds}
 use Rattle.world_core.specs.Alone.{LeavesAlone, StepIsUndisturbed}
@@ -48,10 +48,10 @@ use Rattle.world_core.specs.Span.{Span, span_of}
 
 -- a world whose sessions are closed, and that saw nothing; blind where it looks at no put
 pub record IsNew (blind : Bool) (world : World) : Type 0 where
-  pub sessions : world.sessions ≡ replicate 17 closed_session
+  pub sessions : world.sessions ≡ replicate all_sessions closed_session
   pub audit : world.audit ≡ record { committed = []; order = [] }
   pub sees : world.blind ≡ blind
-  pub notes : world.notes ≡ replicate 17 blank
+  pub notes : world.notes ≡ replicate all_sessions blank
 
 -- these lines were handled one behind another: each did what its event asks for, and its reply is the reply to that
 pub data WentOn (before : Seen) (old : World) : List Line → Seen → World → Type 0 where

@@ -13,6 +13,7 @@ use Rattle.client_work.specs.declared.work.Work.TheVariants.{Closed, Idle, Openi
 use Rattle.client_work.specs.Session.{Acting, ask_of_work, is_working, rule_of, MayIndex, NoteRefused, PutRefused, AbortRefused}
 use Rattle.world_core.specs.declared.asked.Noting.TheVariants.{Single, Indexed}
 use Rattle.world_core.specs.Sessions.{Changes, IsAtWork, NotesIn, AbortsIn}
+use Rattle.world_core.specs.World.{all_sessions}
 
 -- what stands in a place of a list stands in that of what its items are seen as
 pub seen_there : {X Y : Type 0} (view : X → Y) (seen : List Y) (items : List X) (place : ℕ) (x : X) → map view items ≡ seen → place < length items → x ≡ get_or items place x
@@ -35,9 +36,9 @@ changes_at acting Does place sessions items x y same within is does = record {
   rest = set_there acting sessions items place y same;
 }
 
--- one of seventeen sessions changes
+-- one of all sessions changes
 pub changes_there : {X : Type 0} (acting : X → Acting) (Does : Acting → Acting → Type 0) (number place : ℕ) (sessions : List Acting) (items : List X) (x y : X) → map acting items ≡ sessions
-    → length items ≡ 17 → place ≡ number → place < 17 → x ≡ get_or items place x → Does (acting x) (acting y)
+    → length items ≡ all_sessions → place ≡ number → place < all_sessions → x ≡ get_or items place x → Does (acting x) (acting y)
     → Changes number Does sessions (map acting (slice_set items place y))
 changes_there acting Does number place sessions items x y same long at within is does =
     subst (λ n. Changes n Does sessions (map acting (slice_set items place y))) at
@@ -62,9 +63,9 @@ works_on (Settling m) ask asks = refl
 works_on (Sweeping m) ask asks = refl
 works_on (Broken lease) ask asks = absurd cc
 
--- one of seventeen sessions that has a call in hand is at work
+-- one of all sessions that has a call in hand is at work
 pub works_there : {X : Type 0} (acting : X → Acting) (number place : ℕ) (sessions : List Acting) (items : List X) (x : X) → map acting items ≡ sessions
-    → length items ≡ 17 → place ≡ number → place < 17 → x ≡ get_or items place x → IsAtWork number sessions → is_working (acting x).work ≡ true
+    → length items ≡ all_sessions → place ≡ number → place < all_sessions → x ≡ get_or items place x → IsAtWork number sessions → is_working (acting x).work ≡ true
 works_there acting number place sessions items x same long at within is works =
     let there : slice_get sessions place ≡ Some (acting x) = seen_there acting sessions items place x same (subst (λ n. place < n) (sym long) within) is in
     let found : Some works.session ≡ Some (acting x) = sym works.there ∙ (ap (λ n. slice_get sessions n) (sym at) ∙ there) in

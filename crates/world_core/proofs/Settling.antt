@@ -13,7 +13,7 @@ use Rattle.orphan_sweep.specs.Sweeping.{new_sweeping, sweep_ask}
 use Rattle.session_facts.proofs.Rows.CallKinds.{errand_goes}
 use Rattle.session_facts.specs.Lines.Errands.{Errand, settles, sweeps, session_for, WorksOn}
 use Rattle.settle_run.specs.Settling.{new_settling, settle_ask}
-use Rattle.world_core.specs.World.{World}
+use Rattle.world_core.specs.World.{World, all_sessions}
 use Rattle.world_core.specs.Replying.{IsOfErrand}
 use Rattle.world_core.specs.Sessions.{Changes, IsAtWork}
 use Rattle.world_core.specs.Handled.{Went, start, further, ComesTo}
@@ -21,11 +21,11 @@ use Rattle.world_core.specs.Span.{span_of}
 use Rattle.world_core.proofs.Errands.{works_first}
 use Rattle.world_core.proofs.Going.{same_session, after_there}
 
--- one of seventeen sessions is this one then
+-- one of all sessions is this one then
 abbrev Becomes : Acting → Acting → Acting → Type 0
 Becomes first before after = after ≡ first
 
-becomes_at : (first : Acting) (number place : ℕ) (sessions items : List Acting) (a : Acting) → items ≡ sessions → length items ≡ 17 → place ≡ number → place < 17 → a ≡ first
+becomes_at : (first : Acting) (number place : ℕ) (sessions items : List Acting) (a : Acting) → items ≡ sessions → length items ≡ all_sessions → place ≡ number → place < all_sessions → a ≡ first
     → Changes number (λ x b. b ≡ first) sessions (slice_set items place a)
 becomes_at first number place sessions items a same long is within becomes =
     subst (λ l. Changes number (Becomes first) l (slice_set items place a)) same (subst (λ n. Changes n (Becomes first) items (slice_set items place a)) is (record {
@@ -37,8 +37,8 @@ becomes_at first number place sessions items a same long is within becomes =
     }))
 
 -- by how the sessions stand
-pub becomes_in : {X : Type 0} (acting : X → Acting) (first : Acting) (number place : ℕ) (sessions : List Acting) (items : List X) (a : X) → map acting items ≡ sessions → length items ≡ 17
-    → place ≡ number → place < 17 → acting a ≡ first → Changes number (λ x b. b ≡ first) sessions (map acting (slice_set items place a))
+pub becomes_in : {X : Type 0} (acting : X → Acting) (first : Acting) (number place : ℕ) (sessions : List Acting) (items : List X) (a : X) → map acting items ≡ sessions → length items ≡ all_sessions
+    → place ≡ number → place < all_sessions → acting a ≡ first → Changes number (λ x b. b ≡ first) sessions (map acting (slice_set items place a))
 becomes_in acting first number place sessions items a same long is within becomes =
     subst (λ l. Changes number (Becomes first) sessions l)
     (sym (map-set acting items place a)) (becomes_at first number place sessions (map acting items) (acting a) same (length-map items acting ∙ long) is within becomes)

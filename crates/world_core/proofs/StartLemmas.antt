@@ -10,6 +10,7 @@ use Rattle.session_facts.proofs.Lines.Start.{closed_at, nothing_stands_yet}
 use Rattle.session_facts.specs.Lines.Counted.{calls_told, CountsWork, CountsAll}
 use Rattle.session_notes.specs.declared.notebook.Notebook.{Notebook}
 use Rattle.world_core.specs.Stands.{WorldStands}
+use Rattle.world_core.specs.World.{all_sessions}
 
 -- what stands for one that looks at puts stands for one that does not
 sees_or_not : (sessions : Sessions) (audit : Audited) (blind : Bool) (t : CloudState) → Stands [] sessions audit false t → Stands [] sessions audit blind t
@@ -28,21 +29,21 @@ sees_or_not sessions audit blind t s = record {
 
 -- a world whose sessions are closed and that saw nothing stands for no lines over an empty cloud
 lines_stand : (sessions : List Acting) (audit : Audited) (blind : Bool) (t : CloudState)
-    → sessions ≡ replicate 17 closed_session → audit ≡ record { committed = []; order = [] } → IsEmptyCloud t
+    → sessions ≡ replicate all_sessions closed_session → audit ≡ record { committed = []; order = [] } → IsEmptyCloud t
     → Stands [] (session_at sessions) audit blind t
 lines_stand sessions audit blind t closed nothing empty =
     sees_or_not (session_at sessions) audit blind t
     (subst (λ l. Stands [] (session_at l) audit false t) (sym closed)
-    (subst (λ a. Stands [] (session_at (replicate 17 closed_session)) a false t) (sym nothing) (nothing_stands_yet 17 t empty)))
+    (subst (λ a. Stands [] (session_at (replicate all_sessions closed_session)) a false t) (sym nothing) (nothing_stands_yet all_sessions t empty)))
 
 -- and none of them has anything in hand
-none_counted : (sessions : List Acting) (t : CloudState) → sessions ≡ replicate 17 closed_session → CountsAll (calls_told []) t (session_at sessions)
+none_counted : (sessions : List Acting) (t : CloudState) → sessions ≡ replicate all_sessions closed_session → CountsAll (calls_told []) t (session_at sessions)
 none_counted sessions t closed n =
     subst (λ (l : List Acting). CountsWork (calls_told [] n) t (session_at l n).work) (sym closed)
-    (subst (λ (a : Acting). CountsWork (calls_told [] n) t a.work) (sym (closed_at 17 n)) tt)
+    (subst (λ (a : Acting). CountsWork (calls_told [] n) t a.work) (sym (closed_at all_sessions n)) tt)
 
 pub new_stands : (sessions : List Acting) (audit : Audited) (blind : Bool) (notes : List Notebook) (t : CloudState)
-    → sessions ≡ replicate 17 closed_session → audit ≡ record { committed = []; order = [] } → IsEmptyCloud t
+    → sessions ≡ replicate all_sessions closed_session → audit ≡ record { committed = []; order = [] } → IsEmptyCloud t
     → WorldStands [] (record { sessions = sessions; audit = audit; blind = blind; notes = notes }) t
 new_stands sessions audit blind notes t closed nothing empty = record {
   by_lines = lines_stand sessions audit blind t closed nothing empty;

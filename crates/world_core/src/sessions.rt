@@ -1,5 +1,6 @@
 ghost use Rattle.std.specs.Prelude.{◌≡◌, ◌<◌};
 ghost use Rattle.world_core.specs.Sessions.{NotesIn};
+ghost use Rattle.world_core.specs.World.{all_sessions};
 
 use crate::asked::Noting;
 use client_work::answer::{Answer, Begun};
@@ -12,6 +13,9 @@ use db_base::ids::{SessionNo, TreeId};
 use db_base::refusal::Refused;
 use std::alloc::Global;
 use std::marker::Model;
+
+/// How many sessions a replay has: the settler, and those that lines name.
+const SESSIONS: u64 = 17;
 
 /// The sessions of a replay, by their numbers: the settler, and those from 1 to 16 that lines name.
 pub struct Sessions<S: SessionCalls> {
@@ -28,12 +32,13 @@ impl<S: SessionCalls> Drop for Sessions<S> {
 impl<S: SessionCalls> Model for Sessions<S> {
     ghost use Rattle.std.specs.Prelude.{List, ◌≡◌, length, map};
     ghost use Rattle.client_work.specs.Session.{Acting};
+    ghost use Rattle.world_core.specs.World.{all_sessions};
 
     ghost Value = { List Acting };
 
     ghost view = { λ s. map S.acting s.list.items };
 
-    ghost invariant = { λ s. length s.list.items ≡ 17 };
+    ghost invariant = { λ s. length s.list.items ≡ all_sessions };
 }
 
 impl<S: SessionCalls> Sessions<S> {
@@ -43,13 +48,13 @@ impl<S: SessionCalls> Sessions<S> {
     ghost use Rattle.world_core.specs.Sessions.{Changes, IsAtWork, NotesIn, AbortsIn};
 
     /// Closed sessions. Refused for memory alone.
-    #[tactic(auto, using(crate::proofs::Closed::replicate_more, crate::proofs::Closed::seventeen))]
+    #[tactic(auto, using(crate::proofs::Closed::replicate_more, crate::proofs::Closed::as_many))]
     pub fn new(alloc: Global) -> Result<Sessions<S>, Refused>
-        ensures ok { IfOk result (λ s. s ≡ replicate 17 closed_session) }
+        ensures ok { IfOk result (λ s. s ≡ replicate all_sessions closed_session) }
         ensures memory { IfErr result (λ e. e ≡ Refused.Memory) }
     {
         let mut list = Vec::new(alloc);
-        for _count in 0..17u64 {
+        for _count in 0..SESSIONS {
             list.push(S::new(alloc)?)?;
         }
         Ok(Sessions { list })
@@ -165,7 +170,7 @@ fn put<S: Drop>(place: &mut S, session: S)
 /// The place of the session of a number.
 fn place_of(number: SessionNo) -> usize
     ensures is { result ≡ number }
-    ensures within { result < 17 }
+    ensures within { result < all_sessions }
 {
     number.get() as usize
 }

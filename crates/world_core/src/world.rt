@@ -78,6 +78,7 @@ impl<S: SessionCalls> World<S> {
     ghost use Rattle.cloud_trait.specs.State.{CloudState, IsEmptyCloud};
     ghost use Rattle.cloud_trait.specs.Seen.{Seen};
     ghost use Rattle.client_work.specs.Session.{closed_session};
+    ghost use Rattle.world_core.specs.World.{all_sessions};
     ghost use Rattle.reply_text.specs.Reply.{ReplyHasText};
     ghost use Rattle.world_core.specs.Sound.{AnswersSoundly};
     ghost use Rattle.world_core.specs.Acknowledged.{AnswersDurably};
@@ -105,10 +106,10 @@ impl<S: SessionCalls> World<S> {
     /// A world whose sessions are closed, and that saw nothing: over an empty cloud it stands for no lines. Refused for memory
     /// alone.
     pub fn new(alloc: Global) -> Result<World<S>, Refused>
-        ensures sessions { IfOk result (λ w. w.sessions ≡ replicate 17 closed_session) }
+        ensures sessions { IfOk result (λ w. w.sessions ≡ replicate all_sessions closed_session) }
         ensures audit { IfOk result (λ w. w.audit ≡ record { committed = []; order = [] }) }
         ensures sees { IfOk result (λ w. w.blind ≡ false) }
-        ensures notes { IfOk result (λ w. w.notes ≡ replicate 17 blank) }
+        ensures notes { IfOk result (λ w. w.notes ≡ replicate all_sessions blank) }
         ensures memory { IfErr result (λ e. e ≡ Refused.Memory) }
         ensures stands { (t : CloudState) → IsEmptyCloud t → IfOk result (λ w. WorldStands [] w t) }
     {
@@ -118,10 +119,10 @@ impl<S: SessionCalls> World<S> {
     /// A world as a new one that looks at no put, and so keeps no audit: each report that it is asked for fails. Refused for
     /// memory alone.
     pub fn unseeing(alloc: Global) -> Result<World<S>, Refused>
-        ensures sessions { IfOk result (λ w. w.sessions ≡ replicate 17 closed_session) }
+        ensures sessions { IfOk result (λ w. w.sessions ≡ replicate all_sessions closed_session) }
         ensures audit { IfOk result (λ w. w.audit ≡ record { committed = []; order = [] }) }
         ensures sees_none { IfOk result (λ w. w.blind ≡ true) }
-        ensures notes { IfOk result (λ w. w.notes ≡ replicate 17 blank) }
+        ensures notes { IfOk result (λ w. w.notes ≡ replicate all_sessions blank) }
         ensures memory { IfErr result (λ e. e ≡ Refused.Memory) }
         ensures stands { (t : CloudState) → IsEmptyCloud t → IfOk result (λ w. WorldStands [] w t) }
     {
@@ -131,10 +132,10 @@ impl<S: SessionCalls> World<S> {
     /// A world whose sessions are closed, and that saw nothing; blind where it looks at no put.
     #[tactic(auto, using(crate::proofs::StartLemmas::new_stands))]
     fn start(alloc: Global, blind: bool) -> Result<World<S>, Refused>
-        ensures sessions { IfOk result (λ w. w.sessions ≡ replicate 17 closed_session) }
+        ensures sessions { IfOk result (λ w. w.sessions ≡ replicate all_sessions closed_session) }
         ensures audit { IfOk result (λ w. w.audit ≡ record { committed = []; order = [] }) }
         ensures blind { IfOk result (λ w. w.blind ≡ blind) }
-        ensures notes { IfOk result (λ w. w.notes ≡ replicate 17 blank) }
+        ensures notes { IfOk result (λ w. w.notes ≡ replicate all_sessions blank) }
         ensures memory { IfErr result (λ e. e ≡ Refused.Memory) }
         ensures stands { (t : CloudState) → IsEmptyCloud t → IfOk result (λ w. WorldStands [] w t) }
     {

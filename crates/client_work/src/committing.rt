@@ -20,6 +20,7 @@ use std::alloc::Global;
 use txn_buffer::buffer::TxnBuffer;
 
 /// Begins the commit of what a home's session noted: what is in hand then. That of nothing is answered at once.
+#[inline(never)]
 pub(crate) fn commit_noted(
     alloc: Global,
     home: Home,

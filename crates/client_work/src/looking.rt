@@ -19,6 +19,7 @@ use std::alloc::Global;
 use txn_buffer::buffer::TxnBuffer;
 
 /// Begins a look-up beside the open client: what is in hand then.
+#[inline(never)]
 pub(crate) fn begin_looking(
     alloc: Global,
     home: Home,

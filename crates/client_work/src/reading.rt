@@ -16,6 +16,7 @@ use recover_run::home::Home;
 use std::alloc::Global;
 
 /// Begins a read beside the open client: what is in hand then, and what it shows where it ended at once.
+#[inline(never)]
 pub(crate) fn begin_reading(
     alloc: Global,
     home: Home,

@@ -20,6 +20,7 @@ use std::alloc::Global;
 use txn_buffer::buffer::TxnBuffer;
 
 /// Begins a scan beside the open client: what is in hand then, and the records where it ended at once.
+#[inline(never)]
 pub(crate) fn begin_scanning(
     alloc: Global,
     home: Home,

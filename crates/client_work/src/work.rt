@@ -369,9 +369,9 @@ impl Work {
         ensures { result ≡ ended_by self turn.now }
     {
         match self {
-            Work::Committing(machine) => after_commit(left_by(machine, turn)),
-            Work::Paging(home, machine) => after_page(left_by_page(home, machine, turn)),
-            Work::Folding(home, machine) => after_tree(left_by_fold(home, machine, turn)),
+            Work::Committing(machine) => ended_commit(machine, turn),
+            Work::Paging(home, machine) => ended_page(home, machine, turn),
+            Work::Folding(home, machine) => ended_tree(home, machine, turn),
             Work::Settling(machine) => after_settling(machine, turn),
             Work::Sweeping(machine) => after_sweeping(machine, turn),
             other => other,
@@ -511,6 +511,32 @@ fn resting(rest: Rest) -> Work
     }
 }
 
+// What one machine leaves stands in a function of its own, not inlined: the room of a whole machine is cleared where a function is entered.
+
+/// What is in hand behind the last step of a commit.
+#[inline(never)]
+fn ended_commit(machine: CommitRun, turn: &Turn<Answer>) -> Work
+    ensures { result ≡ ended_by (Work.Committing machine) turn.now }
+{
+    after_commit(left_by(machine, turn))
+}
+
+/// What is in hand behind the last step of a page checkpoint.
+#[inline(never)]
+fn ended_page(home: Home, machine: PageCkpt, turn: &Turn<Answer>) -> Work
+    ensures { result ≡ ended_by (Work.Paging home machine) turn.now }
+{
+    after_page(left_by_page(home, machine, turn))
+}
+
+/// What is in hand behind the last step of a tree checkpoint.
+#[inline(never)]
+fn ended_tree(home: Home, machine: TreeCkpt, turn: &Turn<Answer>) -> Work
+    ensures { result ≡ ended_by (Work.Folding home machine) turn.now }
+{
+    after_tree(left_by_fold(home, machine, turn))
+}
+
 /// What is in hand behind an opening.
 fn after_opening(left: Left<OpeningRun>) -> Work
     ensures { result ≡ behind_opening left }
@@ -582,6 +608,7 @@ fn after_tree(left: Left<(Home, TreeCkpt)>) -> Work
 }
 
 /// What is in hand behind a settling.
+#[inline(never)]
 fn after_settling(machine: SettlingRun, turn: &Turn<Answer>) -> Work
     ensures { result ≡ behind_settling machine turn.now }
 {
@@ -592,6 +619,7 @@ fn after_settling(machine: SettlingRun, turn: &Turn<Answer>) -> Work
 }
 
 /// What is in hand behind a sweep.
+#[inline(never)]
 fn after_sweeping(machine: SweepingRun, turn: &Turn<Answer>) -> Work
     ensures { result ≡ behind_sweeping machine turn.now }
 {

@@ -4,7 +4,7 @@ ghost use Rattle.cloud_trait.specs.Call.{ask_of};
 ghost use Rattle.db_base.specs.Entry.{entry_bytes};
 ghost use Rattle.db_base.specs.Limits.{most_changes, longest_key, last_indexed};
 
-use client_work::answer::{Answer, Begun};
+use client_work::answer::{Answer, Begun, handed};
 use client_work::hand::Hand;
 use client_work::op::Op;
 use client_work::shown::Shown;
@@ -240,7 +240,7 @@ impl<H: Hand> Session<H> {
             &mut self.shown,
         );
         self.work.phase().drop_kept(&mut self.cache);
-        turn
+        handed(turn)
     }
 
     /// The client of an open session with nothing at work; or the rule that refuses an operation of it.

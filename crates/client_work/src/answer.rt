@@ -1,4 +1,6 @@
-use cloud_trait::turn::CkptAnswer;
+ghost use Rattle.std.specs.Prelude.{◌≡◌};
+
+use cloud_trait::turn::{CkptAnswer, Turn};
 use db_base::trouble::{CommitAnswer, Trouble};
 use orphan_sweep::Swept;
 use settle_run::Settled;
@@ -35,4 +37,16 @@ pub enum Answer {
     Swept(Swept),
     /// Why the operation stopped.
     Trouble(Trouble),
+}
+
+/// The turn itself. Looked at as it is handed on: nearly each one goes on, and then the room of an answer is not copied.
+#[inline]
+pub fn handed(turn: Turn<Answer>) -> Turn<Answer>
+    ensures { result ≡ turn }
+{
+    match turn {
+        Turn::More => Turn::More,
+        Turn::Ended(answer) => Turn::Ended(answer),
+        Turn::Stopped(trouble) => Turn::Stopped(trouble),
+    }
 }

@@ -3,7 +3,7 @@ ghost use Rattle.client_work.specs.Causes.{MachineSteps};
 ghost use Rattle.client_work.specs.Left.{at_rest, behind_opening, behind_commit, behind_read, behind_scan, behind_look, behind_page, behind_tree};
 ghost use Rattle.client_work.specs.Session.{ShowsAt, StepsAt, behind_settling, behind_sweeping, ended_by, is_other, old_lease, rule_of, stopped_work, acting_of};
 
-use crate::answer::{Answer, Begun};
+use crate::answer::{Answer, Begun, handed};
 use crate::closing::step_close;
 use crate::committing::{advance, broken, commit_noted, left_by};
 use crate::folding::{fold, left_by_fold};
@@ -359,7 +359,7 @@ impl Hand for Work {
             _ => return self.step_apart(alloc, cloud, who, cache, buffer, shown),
         };
         self.end(&turn);
-        turn
+        handed(turn)
     }
 }
 

@@ -15,7 +15,7 @@ use crate::quota::Quota;
 use crate::replying::is_done;
 use crate::world::{World, WorldFault};
 use ckpt_policy::Note;
-use client_work::answer::Answer;
+use client_work::answer::{Answer, handed};
 use client_work::calls::SessionCalls;
 use cloud_trait::cloud::Bench;
 use cloud_trait::turn::Turn;
@@ -191,7 +191,7 @@ impl<S: SessionCalls> World<S> {
         cloud.wish(wish);
         let turn = self.call(alloc, cloud, who);
         match self.note_end(who.session, is_done(&turn)) {
-            Ok(()) => Ok(turn),
+            Ok(()) => Ok(handed(turn)),
             Err(_) => Err(WorldFault::Memory),
         }
     }

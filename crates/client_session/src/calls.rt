@@ -85,7 +85,6 @@ impl<H: Hand> SessionCalls for Session<H> {
         Session::client(self)
     }
 
-    #[inline(always)]
     fn in_hand(&self) -> Option<Call<'_>> {
         Session::in_hand(self)
     }

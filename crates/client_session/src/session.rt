@@ -251,7 +251,6 @@ impl<H: Hand> Session<H> {
     }
 
     /// The service call that the next step makes; none where nothing is at work.
-    #[inline(always)]
     pub fn in_hand(&self) -> Option<Call<'_>>
         ensures { option_map ask_of result ≡ ask_of_work self.now.work }
     {

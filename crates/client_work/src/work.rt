@@ -157,7 +157,6 @@ impl Hand for Work {
         }
     }
 
-    #[inline(always)]
     fn in_hand(&self) -> Option<Call<'_>> {
         match self {
             Work::Opening(machine) => Some(machine.in_hand()),
@@ -356,7 +355,7 @@ impl Hand for Work {
             Work::Folding(_, machine) => fold(alloc, cloud, who, machine),
             Work::Settling(machine) => machine.step(alloc, cloud, who),
             Work::Sweeping(machine) => machine.step(alloc, cloud, who),
-            _ => return self.step_apart(alloc, cloud, who, cache, buffer, shown),
+            _ => return handed(self.step_apart(alloc, cloud, who, cache, buffer, shown)),
         };
         self.end(&turn);
         handed(turn)

@@ -102,10 +102,17 @@ impl<S: SessionCalls> World<S> {
         ensures grows { Grows who.event (C.seen cloud.old) (C.seen cloud.new) }
     {
         if self.blind {
-            return self.step_other(alloc, cloud, who, wish);
+            return match self.step_other(alloc, cloud, who, wish) {
+                Ok(turn) => Ok(turn),
+                Err(fault) => Err(fault),
+            };
         }
+        // A put's result is handed on in parts, so that the results of the other steps need no place in memory.
         match about_in_hand(self.session(who.session)) {
-            About::Looks => self.step_looking(alloc, cloud, who, wish),
+            About::Looks => match self.step_looking(alloc, cloud, who, wish) {
+                Ok(turn) => Ok(turn),
+                Err(fault) => Err(fault),
+            },
             About::Notes(note) => self.step_noted(alloc, cloud, who, wish, note),
         }
     }

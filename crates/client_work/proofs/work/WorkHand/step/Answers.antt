@@ -9,7 +9,7 @@ step_apart-requires g c = other_work c.args.self.now c.requires c.in_default.not
 
 pub returns-clause-steps : goal.returns-clause-steps
 returns-clause-steps g c =
-    rw c.handed.ensures (elim c.match-self.branch [
+    rw c.handed-2.ensures (elim c.match-self.branch [
       | in-Committing w ↦
           steps_ended _ _ _ _ _ _ _ _ _ _ _ (ap g.C.Cloud.seen w.cloud-is) w.in-Committing.is w.self-is w.turn-is c.end.ensures
           (w.advance-turn.ensures.sound, c.args.cache.now, w.advance-turn.new.cache, w.advance-turn.ensures.steps)
@@ -21,7 +21,7 @@ returns-clause-steps g c =
 
 pub returns-clause-machine : goal.returns-clause-machine
 returns-clause-machine g c =
-    rw c.handed.ensures (elim c.match-self.branch [
+    rw c.handed-2.ensures (elim c.match-self.branch [
       | in-Committing w ↦ machine_ended _ _ _ _ _ _ _ _ _ _ _ (ap g.C.Cloud.seen w.cloud-is) w.in-Committing.is w.self-is w.turn-is c.end.ensures _ _ _ w.cache-is w.advance-turn.ensures.machine
       | in-Paging w ↦ machine_ended _ _ _ _ _ _ _ _ _ _ _ (ap g.C.Cloud.seen w.cloud-is) w.in-Paging.is w.self-is w.turn-is c.end.ensures _ _ _ w.cache-is (w.page-turn.ensures.machine w.in-Paging.field-0)
       | in-Folding w ↦ machine_ended _ _ _ _ _ _ _ _ _ _ _ (ap g.C.Cloud.seen w.cloud-is) w.in-Folding.is w.self-is w.turn-is c.end.ensures _ _ _ w.cache-is (w.fold-turn.ensures.machine w.in-Folding.field-0)

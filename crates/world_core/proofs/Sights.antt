@@ -33,8 +33,7 @@ IsNewer put s t = (length (t.versions put.name) ≡ length (s.versions put.name)
 
 landed_newer : (who : Caller) (name : ObjName) (bytes : List ℕ) (s : CloudState) → IsNewer (put_by name bytes) s (landed who name bytes s)
 landed_newer who name bytes s =
-    let version : Version = record { who = who; bytes = Some bytes } in
-    (
+    let version : Version = record { who = who; bytes = Some bytes } in (
       ap length (put_at_same object_cmp object_cmp-total s.versions name (s.versions name ++ version ∷ [])) ∙ length-append (s.versions name) (version ∷ []),
       landed_newest who name bytes s,
     )

@@ -31,17 +31,17 @@ returns-clause-looked g c = rw (← c.self.view_is) (record {
   blinded = λ e. blinds c.self.inside.blind c.in_ok-before.before.newest c.in_ok-after.after c.look_behind.result _ _ c.in_ok-after.was c.in_ok-before.ensures.dark c.look_behind.ensures.dark
       (c.is_blinded-self-inside.ensures.blinded e);
   audit = λ e x y first second.
-    let put : Put = c.requires.puts.put in
-    let before : Sight = c.in_ok-before.before in
-    let has : HasPut c.args.who.session c.self.inside.sessions (Some put) =
-    subst (λ (w : World). HasPut c.args.who.session w.sessions (Some put)) (sym c.self.view_is) c.requires.puts.has in
-    let hand : put_of c.step-turn.ensures.before.work ≡ Some put =
-    put_before c.args.who.session c.self.inside.sessions (Some put) c.step-turn.ensures.before has c.step-turn.ensures.there in
-    let saw : SeesBefore x put before = c.in_ok-before.ensures.sees x first put
-    (subst (λ (n : ℕ). HasPut n c.args.self.now.sessions (Some put)) (sym (ap (λ (w : Caller). w.session) c.who.view_is)) c.requires.puts.has) in
-    let sees : SeesBehind y put.name before c.in_ok-after.after =
-    subst (λ (n : ObjName). SeesBehind y n before c.in_ok-after.after) (sym c.requires.puts.named) (c.in_ok-after.ensures.sees y second) in
-    audited_put (newest x) (newest y) c.step-turn.ensures.before.work c.self.inside.audit c.note_put.new.audit c.keep_landed.new.audit
+      let put : Put = c.requires.puts.put in
+      let before : Sight = c.in_ok-before.before in
+      let has : HasPut c.args.who.session c.self.inside.sessions (Some put) =
+      subst (λ (w : World). HasPut c.args.who.session w.sessions (Some put)) (sym c.self.view_is) c.requires.puts.has in
+      let hand : put_of c.step-turn.ensures.before.work ≡ Some put =
+      put_before c.args.who.session c.self.inside.sessions (Some put) c.step-turn.ensures.before has c.step-turn.ensures.there in
+      let saw : SeesBefore x put before = c.in_ok-before.ensures.sees x first put
+      (subst (λ (n : ℕ). HasPut n c.args.self.now.sessions (Some put)) (sym (ap (λ (w : Caller). w.session) c.who.view_is)) c.requires.puts.has) in
+      let sees : SeesBehind y put.name before c.in_ok-after.after =
+      subst (λ (n : ObjName). SeesBehind y n before c.in_ok-after.after) (sym c.requires.puts.named) (c.in_ok-after.ensures.sees y second) in
+      audited_put (newest x) (newest y) c.step-turn.ensures.before.work c.self.inside.audit c.note_put.new.audit c.keep_landed.new.audit
       c.mark-mark.result put before.newest c.in_ok-after.after hand (c.is_blinded-self-inside.ensures.saw e).1 (c.is_blinded-self-inside.ensures.saw e).2 saw.0
       (put_seen c.args.who c.args.wish put _ _ _ _ _ _ c.step-turn.result before c.in_ok-after.after c.look_before.ensures.looked
       (record { no_call = c.wish.ensures.no_call; set = c.wish.ensures.set }) c.step-turn.ensures hand x y first second saw sees)

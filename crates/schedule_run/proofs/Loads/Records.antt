@@ -20,7 +20,7 @@ use Rattle.session_facts.proofs.Machines.CommitRuns.Stays.{RunsFor, IsRefusal, t
 use Rattle.session_facts.specs.Machines.CommitRuns.Knows.{KnowsHand, KnowsRun}
 use Rattle.session_facts.specs.Machines.Commits.Knows.{attempt_of, HasCommitted, KnowsCommitAt}
 use Rattle.session_facts.specs.Sessions.Knows.{Sessions, SessionsStand, KnowsWork}
-use Rattle.tree_walk.specs.Walk.{Walk, walk_next}
+use Rattle.tree_walk.specs.Walk.{Walk}
 use Rattle.txn_buffer.specs.Noted.{Noted}
 
 -- a change at a place has its record in the log
@@ -118,7 +118,7 @@ run_keeps st now m part reply k = on m.0.hand k.hand
     walks : (first : Bool) (walk : Walk) → RunKeeps log w.home.client w.changes (walked first m.0.draft walk m.1 reply)
     walks first walk =
         refusal_keeps log w.home.client w.changes _
-        (turns w.changes w.home.client first m.0.draft (walk_next (walk, m.1) reply) (record { changes_are = refl; client_is = refl }))
+        (turns w.changes w.home.client first m.0.draft walk m.1 reply (record { changes_are = refl; client_is = refl }))
 
     on : (hand : Hand) → KnowsHand hand st now m.0.draft part → RunKeeps log w.home.client w.changes (run_next_at hand m.0.draft m.1 reply)
     on Writes h = wrote_keeps log w.home.client w.changes m.0.draft m.1 (writing_next w reply) (keeps st now h.home w reply (writing_next w reply) h.at (comes w reply))

@@ -15,6 +15,7 @@ ghost use Rattle.std.specs.Prelude.{◌≡◌, length};
 use db_base::change::Change;
 use db_base::ids::{ClientId, PageId, TreeId};
 use db_base::key::{Key, Payload};
+use head_codec::entry::Entry;
 use head_codec::head::Head;
 use head_codec::lists::Pending;
 use log_codec::record::AtomicRec;
@@ -41,7 +42,8 @@ fn head_of(alloc: Global, tree: TreeId) -> Option<Head> {
     let mut head = Head::empty(alloc);
     for n in 0..PENDING {
         let change = change_of(alloc, b'p', n)?;
-        head.pending.push(Pending { tree, page: 0, number: u64::from(n) + 1, change }).ok()?;
+        let entry = Entry::of(alloc, Pending { tree, page: 0, number: u64::from(n) + 1, change }).ok()?;
+        head.pending.push(entry).ok()?;
     }
     Some(head)
 }

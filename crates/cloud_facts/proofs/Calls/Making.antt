@@ -33,12 +33,12 @@ made_later n m st more made = record {
 }
 
 -- the messages and links of a store are within so many
-pub record IsWithin (n : ℕ) (st : Store) : Type 0 where
+pub record HasFew (n : ℕ) (st : Store) : Type 0 where
   pub posts : (tree : ℕ) → length (st.tally.posts tree 0) ≤ n
   pub links : (tree : ℕ) → IsTree tree → (level : ℕ) → length (st.book.chain tree level) ≤ n + 1
 
 -- so many pages are few
-pub few_reserved : (n : ℕ) (st : Store) (tree pages : ℕ) → IsTree tree → IsMadeBy n st → IsWithin n st → MayReserve st tree pages → pages ≤ 4 * n + 1
+pub few_reserved : (n : ℕ) (st : Store) (tree pages : ℕ) → IsTree tree → IsMadeBy n st → HasFew n st → MayReserve st tree pages → pages ≤ 4 * n + 1
 few_reserved n st tree pages of_tree made within (inl few) = let log = made.log in let posts = within.posts tree in omega (arith, few, log, posts)
 few_reserved n st tree pages of_tree made within (inr (level, few)) = let links = within.links tree of_tree level in omega (arith, few, links)
 
@@ -85,7 +85,7 @@ rows_behind (RemoveHeld name l) n = n + 1
 rows_behind (Send queue bytes) n = n + 1
 rows_behind ask n = n
 
-pub landing_made : (n : ℕ) (who : Caller) (st : Store) (ask : Ask) (su : Store) → IsMadeBy n st → IsWithin n st → Landing who st ask su → IsMadeBy (rows_behind ask n) su
+pub landing_made : (n : ℕ) (who : Caller) (st : Store) (ask : Ask) (su : Store) → IsMadeBy n st → HasFew n st → Landing who st ask su → IsMadeBy (rows_behind ask n) su
 landing_made n who st ask su made within (opens client head records bytes one two e o) = record {
   log = log_made n st made records (opened_few st client head records bytes e o);
   next = (made_later n (n + 1) st (omega arith) made).next;

@@ -15,7 +15,7 @@ use Rattle.cloud_facts.proofs.Calls.Pages.{none_landed}
 use Rattle.cloud_facts.specs.Calls.Made.{IsMadeBy}
 use Rattle.cloud_facts.specs.Calls.Standing.{IsTaken, Follows}
 use Rattle.cloud_facts.proofs.Book.Places.{in_none}
-use Rattle.cloud_facts.proofs.Calls.Making.{IsWithin, landing_made, rows_many}
+use Rattle.cloud_facts.proofs.Calls.Making.{HasFew, landing_made, rows_many}
 use Rattle.cloud_facts.proofs.Calls.Rows.{links_within, messages_within, same_traced}
 use Rattle.cloud_facts.specs.Decoding.Decodes.{Decodes, IsNext, Spells}
 use Rattle.cloud_facts.specs.Decoding.Kinds.{IsNode}
@@ -152,7 +152,7 @@ landing_spells who book order s ask su h g d (stays asked puts touches) f = quie
 -- ---- the whole
 
 -- its messages and links are within the rows
-pub within_rows : (book : Book) (order : List Entry) (s : CloudState) → StandsUnder book order s → IsWithin (length s.trace) (store_of book order s)
+pub within_rows : (book : Book) (order : List Entry) (s : CloudState) → StandsUnder book order s → HasFew (length s.trace) (store_of book order s)
 within_rows book order s stands = record {
   posts = λ tree. messages_within s stands.traced (TreePu tree);
   links = λ tree is. links_within s stands.traced tree (book.chain tree) _ _ (stands.holds.chains tree is);

@@ -9,7 +9,7 @@ use Rattle.byte_format.specs.Order.{bytes_same}
 use Rattle.byte_format.specs.Format.{greatest}
 use Rattle.byte_format.specs.Whole.{whole}
 use Rattle.cloud_facts.proofs.Book.Places.{get_map, in_front}
-use Rattle.cloud_facts.proofs.Calls.Making.{IsWithin}
+use Rattle.cloud_facts.proofs.Calls.Making.{HasFew}
 use Rattle.cloud_facts.proofs.Calls.StandingLemmas.{within_rows}
 use Rattle.cloud_facts.proofs.Decoding.Newest.{newest_last, last_map, last_there}
 use Rattle.cloud_facts.proofs.Decoding.Reading.{node_reads}
@@ -117,7 +117,7 @@ told_later book order s t stands grown = record {
       omega (arith, few, log, rows);
 }
   where
-    within : IsWithin (length s.trace) (store_of book order s)
+    within : HasFew (length s.trace) (store_of book order s)
     within = within_rows book order s stands
 
     rows : length s.trace ≤ length t.trace

@@ -1,14 +1,14 @@
 #!/usr/bin/env bash
 # What a look-up costs: in a tree of 10,101 records with an index, of which one has one attribute, 100 have another and 10,000 a third, the service calls and the
 # milliseconds of a processor that a look-up of each takes, beside a scan of the whole tree: of many such lines, less the time of the schedule without them.
-# Calls are counted by the program of the crate call_trace (TRACE=PATH; made by `rt build` there), times are those of the proved program.
+# Calls are counted by the program of the crate call_trace (TRACE=PATH; made by `rt run -- replay </dev/null` there), times are those of the proved program.
 # Usage: TRACE=PATH bench/lookup.sh
 set -u
 top=$(cd "$(dirname "$0")/.." && pwd)
 . "$top/bench/proved.sh"
 trace=${TRACE:-$top/crates/call_trace/out/call_trace}
 if [ ! -x "$trace" ]; then
-    echo "no program of call_trace stands at $trace: build it there, or name one by TRACE" >&2
+    echo "no program of call_trace stands at $trace: rt run -- replay </dev/null in crates/call_trace makes it, or name one by TRACE" >&2
     exit 1
 fi
 schedule=$(mktemp)

@@ -2,14 +2,14 @@
 # What the four roles come to: 2,000 commits of 20 changes in 4 trees by four clients in turns, in runs of 500 over an empty cloud each, for each role with K
 # of 1, 4 and 16. Behind each commit its session reads a key of each tree and works. It prints a table: checkpoints made, of these passed over, the most messages
 # that one queue, and all queues together, kept behind a `work`, service calls a commit (its walk, reads and checkpoints), and the seconds of all runs.
-# Calls are counted by the program of the crate call_trace (TRACE=PATH; made by `rt build` there), times are those of the proved program.
+# Calls are counted by the program of the crate call_trace (TRACE=PATH; made by `rt run -- replay </dev/null` there), times are those of the proved program.
 # Usage: TRACE=PATH bench/policies.sh [COMMITS]     (500 a run where none is given; an input may have 262,144 bytes)
 set -u
 top=$(cd "$(dirname "$0")/.." && pwd)
 . "$top/bench/proved.sh"
 trace=${TRACE:-$top/crates/call_trace/out/call_trace}
 if [ ! -x "$trace" ]; then
-    echo "no program of call_trace stands at $trace: build it there, or name one by TRACE" >&2
+    echo "no program of call_trace stands at $trace: rt run -- replay </dev/null in crates/call_trace makes it, or name one by TRACE" >&2
     exit 1
 fi
 commits=${1:-500}

@@ -9,8 +9,9 @@ replies, and holds every report against what it follows:
 
 A commit that was cut off by a crash, or is in doubt, is committed where the next report says so, and never afterwards.
 A report while a commit is half done is not for it: lines and replies do not tell whether its head landed.
-A read, a scan or a look-up shows payloads that a session noted for that key, and a look-up records whose attribute and entry one noted. A session without a ledger makes no checkpoint by `work`, and a watchdog
-no more than its number. Lines and replies are matched by their numbers.
+A read, a scan or a look-up shows payloads that a session noted for that key, and a look-up records whose attribute and entry one noted. Where a report
+said `left 0 0` and no commit began since, each of them that is made by plain calls, of a session that noted nothing, shows just what the report has.
+A session without a ledger makes no checkpoint by `work`, and a watchdog no more than its number. Lines and replies are matched by their numbers.
 
 Usage: bench/model.py SCHEDULE REPLIES [..]     prints one line for each pair; status 1 where one is not as the model says
 """
@@ -92,6 +93,8 @@ class Session:
         self.client = self.epoch = 0
         self.buffer = {}
         self.at_work = None
+        # Of what it has at work: what was known whole when it began, and whether one of its calls was no plain one.
+        self.known, self.odd = {}, False
         # The role and number of its ledger, where a line gave it one.
         self.policy = None
 
@@ -105,6 +108,8 @@ class Model:
         self.tried, self.doubtful = [], set()
         self.orders = {}
         self.reports = []
+        # The records of each tree of which a report said that nothing is left, while no commit began since.
+        self.whole = {}
         # Of the trees that were swept, and nothing was done since: how many pages were kept.
         self.swept = {}
 
@@ -150,6 +155,9 @@ class Model:
             self.sessions[words[0]] = Session()
         elif said == "begun":
             session.at_work = what
+            session.known, session.odd = dict(self.whole), False
+            if what == "commit":
+                self.whole.clear()
             if what == "close":
                 session.policy = None
             if what == "open":
@@ -158,9 +166,11 @@ class Model:
             if what == "commit":
                 self.attempts[session.client, session.epoch] = self.attempts.get((session.client, session.epoch), 0) + 1
             session.asked = words[1:]
-        elif what in ("run", "step") and said != "called":
-            self.answer(session, said)
-            session.at_work = None
+        elif what in ("run", "step"):
+            session.odd |= what == "step" and words[1] != "plain"
+            if said != "called":
+                self.answer(session, said)
+                session.at_work = None
 
     def sweep(self, tree, said):
         """Of a tree that nothing was done to since its last sweep nothing is removed."""
@@ -205,6 +215,34 @@ class Model:
         noted = self.noted.get((tree, key), ())
         return payload in noted or ("add" in noted and len(payload) == 16)
 
+    def knows(self, session, tree):
+        """The records of a tree, where what a session has at work is to show just these, else none."""
+        records = self.whole.get(tree)
+        return records if records is session.known.get(tree) and not session.odd and not session.buffer else None
+
+    def must_be(self, said, records):
+        word, *shown = said.split(" ")
+        spelled = [str(len(records)), *(f"{key}={records[key][0]}" for key in sorted(records))]
+        at = next((at for at, (one, other) in enumerate(zip(shown, spelled)) if at and one != other), min(len(shown), len(spelled)))
+        must(word == "scan" and shown == spelled, f"{' '.join([word, *shown[:1]])}, and the last report has {spelled[0]} records, others from place {at} on; nothing was committed since")
+
+    def is_shown(self, session, said):
+        """Holds a read, a scan or a look-up against the last report of a tree, where that has all."""
+        tree, *asked = session.asked
+        records = self.knows(session, tree)
+        if records is None:
+            return
+        if session.at_work == "read":
+            value = f"value {records[asked[0]][0]}" if asked[0] in records else "none"
+            must(said == value, f"{said.split(' ')[0]}, and the last report has another one; nothing was committed since")
+        elif session.at_work == "scan":
+            low, high = asked
+            self.must_be(said, {key: it for key, it in records.items() if (low == "-" or low <= key) and (high == "-" or key < high)})
+        elif session.at_work == "lookup":
+            entries = self.knows(session, entry_of(tree, "", "")[0])
+            if entries is not None:
+                self.must_be(said, {key: it for key, it in records.items() if it[1:] == asked and entry_of(tree, key, asked[0])[1] in entries})
+
     def attempt(self, session):
         number = self.attempts[session.client, session.epoch]
         return (session.client, session.epoch, number), [(tree, change) for (tree, _), change in session.buffer.items()]
@@ -215,6 +253,8 @@ class Model:
 
     def answer(self, session, said):
         word, *rest = said.split(" ")
+        if session.at_work in ("read", "scan", "lookup"):
+            self.is_shown(session, said)
         if session.at_work == "open" and word == "opened":
             session.epoch = int(rest[0])
         elif session.at_work == "commit":
@@ -272,6 +312,10 @@ class Model:
         records = fold(it.split(" ", 3)[3] for it in order)
         must(report["contents"] == [" ".join([key, *records[key]]) for key in sorted(records)], "the contents are not the fold of the order")
         must(report["left"] != [0, 0] or len(order) == len(told), "nothing is left, and the order has not all that was committed")
+        if report["left"] != [0, 0] or any(it.at_work == "commit" for it in self.sessions.values()):
+            self.whole.pop(tree, None)
+        elif self.whole.get(tree) != records:
+            self.whole[tree] = records
         self.reports.append(report)
 
 

@@ -2,7 +2,7 @@
 use Rattle.std.proofs.Common.{◌≡◌, ◌<◌, ◌≤◌, ◌+◌, ◌-◌, ◌++◌, ℕ, zero, suc, List, [], ◌∷◌, length, take, refl, ap, sym, subst, ◌∙◌, arith, Bool, true, false, cond, eqb, ltb, Option, Some, None}
 use Rattle.std.specs.Prelude.{slice_get, slice_set, slice_index_or}
 use Rattle.std.specs.List.{position, position_or_len, remove}
-use Rattle.std.specs.Option.{option_map_or, option_map}
+use Rattle.std.specs.Option.{option_map_or, option_map, OnSome}
 use Rattle.std.proofs.lemmas.Bool.{eqb-true, eqb-false, ne_eqb, ltb-true, ltb-false}
 use Rattle.std.proofs.lemmas.List.{append-nil, append_assoc, length-append}
 use Rattle.cloud_trait.specs.declared.state.Posted.{Posted}
@@ -138,6 +138,31 @@ choose-step out most p ms ps h = on (message_at ms p) where
   on None = rw (append-nil out)
   on (Some bytes) = takes-more out _ (chosen ms ps) (most - length out) (most - length (out ++ record { id = p; bytes = bytes } ∷ [])) (omega (arith, length-append out (record { id = p; bytes = bytes } ∷ [])))
 
+-- what is chosen by two lists of positions, one behind the other
+chosen-append : (ms : List Posted) (ps qs : List ℕ) → chosen ms (ps ++ qs) ≡ chosen ms ps ++ chosen ms qs
+chosen-append ms [] qs = refl
+chosen-append ms (p ∷ ps) qs = on (message_at ms p) (chosen-append ms ps qs) where
+  on : (o : Option (List ℕ)) → chosen ms (ps ++ qs) ≡ chosen ms ps ++ chosen ms qs
+      → option_map_or (λ bytes. record { id = p; bytes = bytes } ∷ chosen ms (ps ++ qs)) o (chosen ms (ps ++ qs))
+      ≡ option_map_or (λ bytes. record { id = p; bytes = bytes } ∷ chosen ms ps) o (chosen ms ps) ++ chosen ms qs
+  on None again = again
+  on (Some bytes) again = ap (λ out. record { id = p; bytes = bytes } ∷ out) again
+
+-- the first so many of one list, and then of the next while there are fewer
+take-both : {X : Type 0} (n : ℕ) (xs ys : List X) → take n xs ++ take (n - length (take n xs)) ys ≡ take n (xs ++ ys)
+take-both zero xs ys = refl
+take-both (suc n) [] ys = let left : suc n - 0 ≡ suc n = omega arith in rw left refl
+take-both (suc n) (x ∷ xs) ys =
+    let left : suc n - suc (length (take n xs)) ≡ n - length (take n xs) = omega arith in
+    rw left (ap (λ out. x ∷ out) (take-both n xs ys))
+
+-- what two runs of a choice came to
+pub chosen-both : (most : ℕ) (ms : List Posted) (front back : List ℕ) (mid out : List Message)
+    → mid ≡ take most (chosen ms front) → out ≡ mid ++ take (most - length mid) (chosen ms back)
+    → out ≡ take most (chosen ms (front ++ back))
+chosen-both most ms front back mid out e f =
+    rw (f, e, chosen-append ms front back) (take-both most (chosen ms front) (chosen ms back))
+
 -- ---- what is kept after each call
 
 pub added : (ms ns : List Posted) (m : Posted) (ids : List ℕ) (id : ℕ) → ids ≡ open_from 1 ms → ns ≡ ms ++ m ∷ [] → m.deleted ≡ false → id ≡ length ns → ids ++ id ∷ [] ≡ open_from 1 ns
@@ -160,6 +185,14 @@ place-none p ids e = on (ltb (position_or_len p ids) (length ids)) refl e where
   on : (b : Bool) → ltb (position_or_len p ids) (length ids) ≡ b → cond b (Some (position_or_len p ids)) None ≡ None → length ids ≤ position_or_len p ids
   on true h is = absurd cc
   on false h is = let l = ltb-false (position_or_len p ids) (length ids) h in omega arith
+
+-- a place at which a number stands is one of the list
+pub stands-within : (ids : List ℕ) (id place : ℕ) → position (λ k. eqb k id) ids ≡ Some place → place < length ids
+stands-within ids id place is = (place-some (λ k. eqb k id) ids place is).1
+
+-- what holds where something was given
+pub of-given : {X : Type 0} (given : Option X) (x : X) (P : Type 0) → given ≡ Some x → OnSome given P → P
+of-given given x P is h = subst (λ o. OnSome o P) is h
 
 pub marks : (ms : List Posted) (ids : List ℕ) (id place : ℕ) → ids ≡ open_from 1 ms → 1 ≤ id → position (λ k. eqb k id) ids ≡ Some place
     → remove ids place ≡ open_from 1 (mark_at ms (id - 1))

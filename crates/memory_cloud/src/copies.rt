@@ -1,4 +1,4 @@
-ghost use Rattle.std.specs.Prelude.{◌≡◌, ◌++◌, take, is_some, OnOk, IfOk};
+ghost use Rattle.std.specs.Prelude.{◌≡◌, ◌++◌, ◌-◌, length, take, is_some, OnOk, IfOk};
 ghost use Rattle.std.specs.Option.{option_copied};
 ghost use Rattle.cloud_trait.specs.Bench.{has_bytes};
 ghost use Rattle.cloud_trait.specs.State.{newest_of, version_at, message_at};
@@ -118,15 +118,30 @@ pub fn copy_chosen(
     ensures { IfOk result (λ v. v.items ≡ take most (chosen messages.now positions.now)) }
 {
     let mut out = Vec::new(alloc);
+    add_chosen(alloc, &mut out, messages, positions, most)?;
+    Ok(out)
+}
+
+/// Adds copies of the messages at these positions, in turn, while there are fewer than so many.
+pub fn add_chosen(
+    alloc: Global,
+    out: &mut Vec<Message>,
+    messages: &[Posted],
+    positions: &[u64],
+    most: usize,
+) -> Result<(), AllocError>
+    ensures { OnOk result (out.new.items ≡ out.old.items
+        ++ take (most - length out.old.items) (chosen messages.now positions.now)) }
+{
     let mut left = positions;
     while let Some((position, rest)) = left.split_first() {
         if out.len() >= most {
             break;
         }
-        push_chosen(alloc, &mut out, messages, *position)?;
+        push_chosen(alloc, out, messages, *position)?;
         left = rest;
     }
-    Ok(out)
+    Ok(())
 }
 
 // Adds a copy of the message at a position, if there is one.

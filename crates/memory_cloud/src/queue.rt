@@ -3,18 +3,19 @@ ghost use Rattle.std.specs.List.{position};
 ghost use Rattle.cloud_trait.specs.State.{mark_at};
 ghost use Rattle.memory_cloud.specs.Choice.{open_from};
 
-use crate::copies::copy_chosen;
+use crate::copies::{add_chosen, copy_chosen};
 use cloud_trait::message::Message;
 use cloud_trait::state::Posted;
 use db_base::ids::MsgId;
 use std::alloc::{AllocError, Global};
+use std::collections::VecDeque;
 
 /// The messages that were sent to a queue, and the numbers of those that are not deleted, so that a receive
-/// does not walk over what is gone.
+/// does not walk over what is gone, and a deletion of the first one moves no other.
 #[derive(Drop)]
 pub struct Queue {
     pub messages: Vec<Posted>,
-    pub kept: Vec<u64>,
+    pub kept: VecDeque<u64>,
     ghost kept_are: { kept.items ≡ open_from 1 messages.items },
 }
 
@@ -28,7 +29,7 @@ impl Queue {
     {
         Queue {
             messages: Vec::new(alloc),
-            kept: Vec::new(alloc),
+            kept: VecDeque::new(alloc),
         }
     }
 
@@ -41,7 +42,7 @@ impl Queue {
         let is_open = !message.deleted;
         self.messages.push(message)?;
         if is_open {
-            self.kept.push_reserved(self.messages.len() as u64);
+            self.kept.push_back_reserved(self.messages.len() as u64);
         }
         Ok(())
     }
@@ -54,7 +55,7 @@ impl Queue {
         if number == 0 {
             return;
         }
-        if let Some(place) = place_of(self.kept.as_slice(), number) {
+        if let Some(place) = place_of(&self.kept, number) {
             self.kept.remove(place);
             mark_in(&mut self.messages, (number - 1) as usize);
         }
@@ -64,7 +65,11 @@ impl Queue {
     pub fn deliver(&self, alloc: Global, most: usize) -> Result<Vec<Message>, AllocError>
         ensures { IfOk result (λ v. v.items ≡ take most (unmarked self.now.messages.items)) }
     {
-        copy_chosen(alloc, self.messages.as_slice(), self.kept.as_slice(), most)
+        let messages = self.messages.as_slice();
+        let (front, back) = self.kept.as_slices();
+        let mut out = copy_chosen(alloc, messages, front, most)?;
+        add_chosen(alloc, &mut out, messages, back, most)?;
+        Ok(out)
     }
 
     /// How many messages are not deleted.
@@ -76,8 +81,8 @@ impl Queue {
 }
 
 /// Where a number stands first.
-fn place_of(numbers: &[u64], number: u64) -> Option<usize>
-    ensures { result ≡ position (λ k. k == number) numbers.now }
+fn place_of(numbers: &VecDeque<u64>, number: u64) -> Option<usize>
+    ensures { result ≡ position (λ k. k == number) numbers.now.items }
 {
     numbers.iter().position(|other| *other == number)
 }

@@ -1,7 +1,7 @@
 use Rattle.std.proofs.Common.{arith, length, rules, ◌≡◌, ◌∙◌, ◌∷◌, ◌++◌, ◌<◌}
 use Rattle.memory_cloud.specs.Choice.{chosen_at}
 use Rattle.memory_cloud.proofs.QueueLemmas.{choose-step}
-use Rattle.memory_cloud.proofs.copies.copy_chosen.Goals as goal
+use Rattle.memory_cloud.proofs.copies.add_chosen.Goals as goal
 
 pub loop-position-preserved : goal.loop-position-preserved
 loop-position-preserved c =

@@ -11,6 +11,7 @@ pub mod Steps
 pub mod Explains
 pub mod Quiet
 pub mod Waits
+pub mod Led
 pub mod Outcome
 pub mod ToldCalls
 pub mod CheckpointCalls

@@ -2,6 +2,7 @@
 pub mod Audited
 pub mod Knows
 pub mod HeadPuts
+pub mod Led
 pub mod Spent
 pub mod Stops
 pub mod Explains

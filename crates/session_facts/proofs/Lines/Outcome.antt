@@ -31,6 +31,7 @@ use Rattle.cloud_facts.specs.Book.Records.{entries_of}
 use Rattle.session_facts.specs.Sessions.Audited.{audited}
 use Rattle.session_facts.specs.Sessions.HeadPuts.{IsSoundWork}
 use Rattle.session_facts.specs.Sessions.Knows.{ground, Sessions, Goes}
+use Rattle.session_facts.proofs.Sessions.Led.{sound_of}
 use Rattle.session_facts.proofs.Sessions.Outcome.{session_keeps}
 use Rattle.session_facts.proofs.Sessions.HeadPuts.{head_put}
 use Rattle.session_facts.proofs.Sessions.Laws.{rest_keeps, decodes}
@@ -124,23 +125,6 @@ never_stops who before after (Sweeping m) new t p = p
 never_stops who before after Closed new t p = p
 never_stops who before after (Idle home) new t p = p
 never_stops who before after (Broken lease) new t p = p
-
--- what is at work has the bytes in hand that it is to put or send
-pub sound_of : (who : Caller) (before after : Seen) (w new : Work) (turn : Turn Answer) → StepsAt who before after w new turn → IsSoundWork w
-sound_of who before after (Opening m) new turn p = p.0
-sound_of who before after (Committing m) new turn p = p.0
-sound_of who before after (Reading home m) new turn p = tt
-sound_of who before after (Scanning home m) new turn p = tt
-sound_of who before after (Looking home m) new turn p = tt
-sound_of who before after (Paging home m) new turn p = tt
-sound_of who before after (Folding home f) new turn p = tt
-sound_of who before after (Closing lease) new turn p = tt
-sound_of who before after (Renewing home) new turn p = tt
-sound_of who before after (Settling m) new turn p = p.0
-sound_of who before after (Sweeping m) new turn p = tt
-sound_of who before after Closed new turn p = absurd p
-sound_of who before after (Idle home) new turn p = absurd p
-sound_of who before after (Broken lease) new turn p = absurd p
 
 -- what the audit took, and whether one of its looks failed
 pub record Lookout : Type 0 where

@@ -24,7 +24,8 @@ use Rattle.session_facts.specs.Lines.Errands.{Errand, WorksOn, AreRowsOf}
 use Rattle.recover_run.specs.declared.home.Home.{Home}
 use Rattle.session_facts.proofs.Lines.Committed.{placed_effect}
 use Rattle.session_facts.proofs.Rows.Lines.{kinds_effect, rows_line, rows_same}
-use Rattle.session_facts.proofs.Lines.Outcome.{MadeCall, made_call, sound_of}
+use Rattle.session_facts.proofs.Lines.Outcome.{MadeCall, made_call}
+use Rattle.session_facts.proofs.Sessions.Led.{sound_of}
 
 -- ---- nothing is added
 

@@ -57,7 +57,8 @@ use Rattle.session_facts.proofs.Rows.Once.{at_place, lands_same, sends_none, put
 use Rattle.session_facts.proofs.Machines.CommitRuns.Opened.{RunsFrom, run_goes_from}
 use Rattle.session_facts.proofs.Machines.Openings.Stays.{OpensFor, opens_on}
 use Rattle.session_facts.proofs.Machines.CommitRuns.Stays.{RunsFor, AnyAnswer, runs_on}
-use Rattle.session_facts.proofs.Lines.Outcome.{MadeCall, made_call, sound_of}
+use Rattle.session_facts.proofs.Lines.Outcome.{MadeCall, made_call}
+use Rattle.session_facts.proofs.Sessions.Led.{sound_of}
 
 -- ---- rows
 

@@ -4,7 +4,7 @@ use Rattle.std.specs.Prelude.{map}
 use Rattle.std.proofs.lemmas.Bool.{cases_eq}
 use Rattle.std.proofs.lemmas.List.{append-nil}
 use Rattle.attr_index.specs.Look.{look_ask}
-use Rattle.client_work.specs.Session.{Acting, StepsSession, StepsWork, StepsAt, Shows, ShowsAt, ask_of_work, opens_of, committing_of, applying_of, is_working, noted_behind, shown_behind}
+use Rattle.client_work.specs.Session.{Acting, StepsSession, ask_of_work, opens_of, committing_of, applying_of, is_working, noted_behind, shown_behind}
 use Rattle.client_work.specs.declared.answer.Answer.{Answer}
 use Rattle.client_work.specs.declared.work.Work.{Work}
 use Rattle.client_work.specs.declared.work.Work.TheVariants.{Closed, Idle, Opening, Committing, Reading, Scanning, Looking, Folding, Paging, Closing, Renewing, Settling, Sweeping, Broken}
@@ -12,8 +12,9 @@ use Rattle.cloud_facts.specs.Calls.Acting.{footing, actor, Setting, Outcome}
 use Rattle.cloud_facts.specs.Calls.Looks.{has_landed, audit_of}
 use Rattle.cloud_facts.proofs.Calls.Outcomes.{none_lands, weaker}
 use Rattle.cloud_trait.proofs.EffectLemmas.{begins_itself}
-use Rattle.cloud_facts.specs.Words.{Entry, Turn, CloudState, newest, Caller, Seen, Claim, Ask, Get, GetHeld, PutHeld, Send, Receive, Delete, Take, Renew, Release, Book, Store, at, store_of}
+use Rattle.cloud_facts.specs.Words.{Entry, Turn, CloudState, newest, Caller, Seen, Claim, Deed, Ask, Get, GetHeld, PutHeld, Send, Receive, Delete, Take, Renew, Release, Book, Store, at, store_of}
 use Rattle.cloud_trait.specs.Ask.{ListHeld, RemoveHeld}
+use Rattle.cloud_trait.specs.Weather.{Makes}
 use Rattle.session_facts.specs.Machines.Commits.Knows.{MayCommit}
 use Rattle.session_facts.proofs.Machines.Commits.Noted.{may_none}
 use Rattle.commit_run.specs.Run.{run_ask}
@@ -29,10 +30,14 @@ use Rattle.session_facts.specs.Machines.PageCheckpoints.Knows.{paging_note}
 use Rattle.range_scan.specs.Scan.{scan_ask}
 use Rattle.recover_run.specs.Recovery.{recovery_ask}
 use Rattle.session_facts.specs.Sessions.Audited.{noted_head, noted_at, noted_in_hand, audited}
+use Rattle.session_facts.specs.Sessions.Calls.{SessionStep, session_step}
+use Rattle.session_facts.specs.Sessions.HeadPuts.{IsSoundWork}
+use Rattle.session_facts.specs.Sessions.Led.{LedTo, LedOn, exchange_of, IsRow, RenewsHand}
 use Rattle.session_facts.specs.Sessions.Knows.{ground, leases_of, KnowsWork, KnowsKept, Sessions, SessionsStand, Goes}
 use Rattle.session_facts.proofs.Sessions.Steps.Commits.{commit_step, run_noted}
 use Rattle.session_facts.proofs.Sessions.Steps.TreeCheckpoints.{making_step, making_noted}
 use Rattle.session_facts.proofs.Sessions.Kept.{KnowsBoth, both_shown}
+use Rattle.session_facts.proofs.Sessions.Led.{led_of, row_of, deed_of_step}
 use Rattle.session_facts.proofs.Sessions.Laws.{call_goes, same_sessions, setting_of, known_at}
 use Rattle.session_facts.proofs.Sessions.Steps.Leases.{passage, IsStepOf, closing_step, renewing_step}
 use Rattle.session_facts.proofs.Sessions.Steps.Openings.{opening_step}
@@ -118,139 +123,125 @@ idle_goes s t book order sessions session new same as_was stand = record {
         on (inl e) = at_same session new sessions n e ∙ (as_was ∙ ap sessions (sym e))
         on (inr ne) = at_other session new sessions n ne
 
-module _ (who : Caller) (before after : Seen) (s t : CloudState) (book : Book) (order : List Entry) (sessions : Sessions) (new : Acting) (told : before.state ≡ Some s)
-    (told_after : after.state ≡ Some t) (stand : SessionsStand book order s sessions) (may : MayCommit new.buffer) where
+module _ (d : Deed) (s t : CloudState) (book : Book) (order : List Entry) (sessions : Sessions) (new : Acting) (told : d.before.state ≡ Some s) (told_after : d.after.state ≡ Some t)
+    (stand : SessionsStand book order s sessions) (may : MayCommit new.buffer) where
+  abbrev by : Caller
+  by = d.who
+
   abbrev old : Work
-  old = (sessions who.session).work
+  old = (sessions by.session).work
 
   -- a step of what is at work, as it is said of all sessions
   goes_by : (ask : Ask) (note : Audited → Audited) (c : Cache) → ask_of_work old ≡ Some ask → note (audit_of book order) ≡ noted_at old ask (audit_of book order)
-      → new.cache ≡ shown_behind new.work c → IsStepOf (footing book order s) t stand.parts ask note (passage who old new.work c) → Goes (ground book order s sessions) t who.session new
+      → new.cache ≡ shown_behind new.work c → IsStepOf (footing book order s) t stand.parts ask note (passage by old new.work c) → Goes (ground book order s sessions) t by.session new
   goes_by ask note c asks same shown step =
-      call_goes who s t book order sessions new ask step.reply stand may step.call asks step.handles
-      (subst (λ (k : Cache). Outcome (footing book order s) t (actor stand.parts who.session (leases_of old)) ask (noted_at old ask) (KnowsBoth k new.work)) (sym shown)
-      (weaker who book order s t stand.parts (leases_of old) ask (noted_at old ask) (KnowsBoth c new.work) (KnowsBoth (shown_behind new.work c) new.work) (both_shown c new.work)
-      (renoted who book order s t stand.parts (leases_of old) ask note (noted_at old ask) (KnowsBoth c new.work) same step.outcome)))
+      call_goes by s t book order sessions new ask step.reply stand may step.call asks step.handles
+      (subst (λ (k : Cache). Outcome (footing book order s) t (actor stand.parts by.session (leases_of old)) ask (noted_at old ask) (KnowsBoth k new.work)) (sym shown)
+      (weaker by book order s t stand.parts (leases_of old) ask (noted_at old ask) (KnowsBoth c new.work) (KnowsBoth (shown_behind new.work c) new.work) (both_shown c new.work)
+      (renoted by book order s t stand.parts (leases_of old) ask note (noted_at old ask) (KnowsBoth c new.work) same step.outcome)))
 
   abbrev st : Store
   st = store_of book order s
 
   abbrev Stepped : Ask → (Audited → Audited) → Cache → Work → Type 0
-  Stepped ask note c work = IsStepOf (footing book order s) t stand.parts ask note (passage who work new.work c)
+  Stepped ask note c work = IsStepOf (footing book order s) t stand.parts ask note (passage by work new.work c)
 
   abbrev kept : Cache
-  kept = (sessions who.session).cache
+  kept = (sessions by.session).cache
 
   -- what stands before it and what is known, at the clock that it leaves
-  setting_at : (work : Work) → old ≡ work → s.now ≤ t.now → Setting (footing book order s) t.now (actor stand.parts who.session (leases_of work))
-  setting_at work is later = subst (λ w. Setting (footing book order s) t.now (actor stand.parts who.session (leases_of w))) is (setting_of book order s sessions stand t.now who.session later)
+  setting_at : (work : Work) → old ≡ work → s.now ≤ t.now → Setting (footing book order s) t.now (actor stand.parts by.session (leases_of work))
+  setting_at work is later = subst (λ w. Setting (footing book order s) t.now (actor stand.parts by.session (leases_of w))) is (setting_of book order s sessions stand t.now by.session later)
 
-  known_now : (work : Work) → old ≡ work → KnowsWork st s.now kept work (stand.parts who.session)
-  known_now work is = subst (λ w. KnowsWork st s.now kept w (stand.parts who.session)) is (stand.each who.session).work
+  known_now : (work : Work) → old ≡ work → KnowsWork st s.now kept work (stand.parts by.session)
+  known_now work is = subst (λ w. KnowsWork st s.now kept w (stand.parts by.session)) is (stand.each by.session).work
 
-  known_in : (work : Work) → old ≡ work → s.now ≤ t.now → KnowsWork st t.now kept work (stand.parts who.session)
-  known_in work is later = subst (λ w. KnowsWork st t.now kept w (stand.parts who.session)) is (known_at book order s sessions stand t.now who.session later)
+  known_in : (work : Work) → old ≡ work → s.now ≤ t.now → KnowsWork st t.now kept work (stand.parts by.session)
+  known_in work is later = subst (λ w. KnowsWork st t.now kept w (stand.parts by.session)) is (known_at book order s sessions stand t.now by.session later)
 
   cache_now : (work : Work) → old ≡ work → KnowsKept st kept work
-  cache_now work is = subst (λ w. KnowsKept st kept w) is (stand.each who.session).kept
+  cache_now work is = subst (λ w. KnowsKept st kept w) is (stand.each by.session).kept
 
   -- the cache is as it was
   same_cache : (c : Cache) → c ≡ kept → KnowsCache st kept → KnowsCache st c
   same_cache c same k = subst (KnowsCache st) (sym same) k
 
-  works : (work : Work) (turn : Turn Answer) (c : Cache) → old ≡ work → StepsAt who before after work new.work turn → ShowsAt who before after (work, kept) (record new { cache = c }) turn
-      → new.cache ≡ shown_behind new.work c → Goes (ground book order s sessions) t who.session new
-  works (Opening r) turn c is steps shown left =
-      goes_by (recovery_ask r) (λ a. a) c (ap ask_of_work is)
-      (sym (ap (λ w. noted_at w (recovery_ask r) (audit_of book order)) is ∙ nothing_noted (Opening r) (recovery_ask r) (audit_of book order) refl refl)) left
-      (subst (Stepped (recovery_ask r) (λ a. a) c) (sym is)
-      (opening_step who before after book order s t stand.parts r (setting_at (Opening r) is) (known_in (Opening r) is) steps.0 c (same_cache c shown.0 (cache_now (Opening r) is)) told told_after
-      new.work turn steps.1))
-  works (Committing r) turn c is steps shown left =
-      goes_by (run_ask r) (run_note r (run_ask r)) c (ap ask_of_work is)
-      (sym (ap (λ q. noted_at q (run_ask r) (audit_of book order)) is ∙ run_noted r (run_ask r) (audit_of book order) refl)) left
-      (subst (Stepped (run_ask r) (run_note r (run_ask r)) c) (sym is)
-      (commit_step who before after book order s t stand.parts r kept c (setting_at (Committing r) is) (known_in (Committing r) is) steps.0 told told_after new.work turn shown.0))
-  works (Reading home w) turn c is steps shown left =
-      goes_by (walk_ask w) (λ a. a) c (ap ask_of_work is)
-      (sym (ap (λ q. noted_at q (walk_ask w) (audit_of book order)) is ∙ nothing_noted (Reading home w) (walk_ask w) (audit_of book order) refl refl)) left
-      (subst (Stepped (walk_ask w) (λ a. a) c) (sym is)
-      (reading_step who before after book order s t stand.parts home w (setting_at (Reading home w) is) (λ later. (known_in (Reading home w) is later).0) (known_now (Reading home w) is).1
-      kept c (cache_now (Reading home w) is) told told_after new.buffer new.work new.shown turn shown))
-  works (Scanning home m) turn c is steps shown left =
-      goes_by (scan_ask m.scan) (λ a. a) c (ap ask_of_work is)
-      (sym (ap (λ q. noted_at q (scan_ask m.scan) (audit_of book order)) is ∙ nothing_noted (Scanning home m) (scan_ask m.scan) (audit_of book order) refl refl)) left
-      (subst (Stepped (scan_ask m.scan) (λ a. a) c) (sym is)
-      (scanning_step who before after book order s t stand.parts home m new.buffer (setting_at (Scanning home m) is) (λ later. (known_in (Scanning home m) is later).0)
-      (known_now (Scanning home m) is).1 kept c (cache_now (Scanning home m) is) told told_after new.work new.shown turn shown))
-  works (Looking home m) turn c is steps shown left =
-      goes_by (look_ask m) (λ a. a) c (ap ask_of_work is)
-      (sym (ap (λ q. noted_at q (look_ask m) (audit_of book order)) is ∙ nothing_noted (Looking home m) (look_ask m) (audit_of book order) refl refl)) left
-      (subst (Stepped (look_ask m) (λ a. a) c) (sym is)
-      (looking_step who before after book order s t stand.parts home m new.buffer (setting_at (Looking home m) is) (λ later. (known_in (Looking home m) is later).0)
-      (known_now (Looking home m) is).1 kept c (cache_now (Looking home m) is) told told_after new.work new.shown turn shown))
-  works (Folding home m) turn c is steps shown left =
-      goes_by (making_ask m) (making_note m (making_ask m)) c (ap ask_of_work is)
-      (sym (ap (λ q. noted_at q (making_ask m) (audit_of book order)) is ∙ making_noted home m (making_ask m) (audit_of book order))) left
-      (subst (Stepped (making_ask m) (making_note m (making_ask m)) c) (sym is)
-      (making_step who before after book order s t stand.parts home m (setting_at (Folding home m) is) (known_now (Folding home m) is).0 (known_now (Folding home m) is).1
-      c (same_cache c shown.0 (cache_now (Folding home m) is)) told told_after new.work turn steps))
-  works (Paging home p) turn c is steps shown left =
-      goes_by (paging_ask p) (paging_note p (paging_ask p)) c (ap ask_of_work is)
-      (sym (ap (λ q. noted_at q (paging_ask p) (audit_of book order)) is ∙ paging_noted home p (paging_ask p) (audit_of book order))) left
-      (subst (Stepped (paging_ask p) (paging_note p (paging_ask p)) c) (sym is)
-      (paging_step who before after book order s t stand.parts home p (setting_at (Paging home p) is) (known_now (Paging home p) is).0 (known_now (Paging home p) is).1
-      c (same_cache c shown.0 (cache_now (Paging home p) is)) told told_after new.work turn steps))
-  works (Closing l) turn c is steps shown left =
-      goes_by (Release l) (λ a. a) c (ap ask_of_work is) (sym (ap (λ w. noted_at w (Release l) (audit_of book order)) is)) left
-      (subst (Stepped (Release l) (λ a. a) c) (sym is)
-      (closing_step who before after book order s t stand.parts l (setting_at (Closing l) is) (known_now (Closing l) is) c (same_cache c shown.0 (cache_now (Closing l) is)) told told_after
-      new.work turn steps))
-  works (Renewing home) turn c is steps shown left =
-      goes_by (Renew home.lease 600) (λ a. a) c (ap ask_of_work is) (sym (ap (λ w. noted_at w (Renew home.lease 600) (audit_of book order)) is)) left
-      (subst (Stepped (Renew home.lease 600) (λ a. a) c) (sym is)
-      (renewing_step who before after book order s t stand.parts home (setting_at (Renewing home) is) (known_in (Renewing home) is) c (same_cache c shown.0 (cache_now (Renewing home) is))
-      told told_after new.work turn steps))
-  works (Settling m) turn c is steps shown left =
-      goes_by (settle_ask m) (settling_note m (settle_ask m)) c (ap ask_of_work is)
-      (sym (ap (λ q. noted_at q (settle_ask m) (audit_of book order)) is ∙ settling_noted m (settle_ask m) (audit_of book order))) left
-      (subst (Stepped (settle_ask m) (settling_note m (settle_ask m)) c) (sym is)
-      (settling_step who before after book order s t stand.parts m (setting_at (Settling m) is) (known_now (Settling m) is) steps.0
-      c (same_cache c shown.0 (cache_now (Settling m) is)) told told_after new.work turn steps.1))
-  works (Sweeping m) turn c is steps shown left =
-      goes_by (sweep_ask m) (λ a. a) c (ap ask_of_work is)
-      (sym (ap (λ w. noted_at w (sweep_ask m) (audit_of book order)) is ∙ sweep_noted (Sweeping m) m (audit_of book order))) left
-      (subst (Stepped (sweep_ask m) (λ a. a) c) (sym is)
-      (sweeping_step who before after book order s t stand.parts m (setting_at (Sweeping m) is) (known_now (Sweeping m) is) c (same_cache c shown.0 (cache_now (Sweeping m) is)) told told_after
-      new.work turn steps))
-  works Closed turn c is never shown left = absurd never
-  works (Idle home) turn c is never shown left = absurd never
-  works (Broken l) turn c is never shown left = absurd never
+  module _ (turn : Turn Answer) (c : Cache) (hand : ask_of_work old ≡ Some d.ask) (left : new.cache ≡ shown_behind new.work c) (row : IsRow d old new.work) where
+    -- the row is that of the call in hand
+    asked : (ask : Ask) → ask_of_work old ≡ Some ask → d.ask ≡ ask
+    asked ask asks = same_Some d.ask ask (sym hand ∙ asks)
 
-  steps_keep : (result : Result (Turn Answer) Refused) → new.buffer ≡ noted_behind old (sessions who.session).buffer → Shows who before after (sessions who.session) new result
-      → StepsWork who before after old new.work result → Goes (ground book order s sessions) t who.session new
-  steps_keep (Ok turn) buffer shown steps = works old turn shown.0 refl steps shown.1 shown.2
-  steps_keep (Err (refused.Rule r)) buffer shown steps =
-      idle_goes s t book order sessions who.session new (same_Some t s (sym told_after ∙ (ap (λ (x : Seen). x.state) steps.3 ∙ told)))
-      (λ i. record { buffer = (buffer ∙ stays old steps.1) i; work = steps.2 i; cache = shown.0 i; shown = shown.1 i }) stand
-    where
-      -- what is not at work drops nothing that was noted
-      stays : (work : Work) → is_working work ≡ false → noted_behind work (sessions who.session).buffer ≡ (sessions who.session).buffer
-      stays Closed e = refl
-      stays (Idle home) e = refl
-      stays (Broken l) e = refl
-      stays (Opening r) e = refl
-      stays (Committing w) e = refl
-      stays (Folding home f) e = refl
-      stays (Paging home p) e = refl
-      stays (Renewing home) e = refl
-      stays (Reading home m) e = refl
-      stays (Scanning home m) e = refl
-      stays (Looking home m) e = refl
-      stays (Settling m) e = refl
-      stays (Sweeping m) e = refl
-      stays (Closing l) e = absurd (cc)
-  steps_keep (Err refused.Memory) buffer shown never = absurd never
+    made : (ask : Ask) → ask_of_work old ≡ Some ask → Makes by ask d.answer d.before d.after
+    made ask asks = subst (λ a. Makes by a d.answer d.before d.after) (asked ask asks) row.made
+
+    works : (work : Work) → old ≡ work → IsSoundWork work → LedTo (work, kept) d.answer (record new { cache = c }) turn → Goes (ground book order s sessions) t by.session new
+    works (Opening r) is sound led =
+        goes_by (recovery_ask r) (λ a. a) c (ap ask_of_work is)
+        (sym (ap (λ w. noted_at w (recovery_ask r) (audit_of book order)) is ∙ nothing_noted (Opening r) (recovery_ask r) (audit_of book order) refl refl)) left
+        (subst (Stepped (recovery_ask r) (λ a. a) c) (sym is)
+        (opening_step by d.before d.after book order s t stand.parts r (setting_at (Opening r) is) (known_in (Opening r) is) sound c (same_cache c led.1 (cache_now (Opening r) is)) told told_after
+        d.answer (made (recovery_ask r) (ap ask_of_work is)) new.work turn led.0))
+    works (Committing r) is sound led =
+        goes_by (run_ask r) (run_note r (run_ask r)) c (ap ask_of_work is)
+        (sym (ap (λ q. noted_at q (run_ask r) (audit_of book order)) is ∙ run_noted r (run_ask r) (audit_of book order) refl)) left
+        (subst (Stepped (run_ask r) (run_note r (run_ask r)) c) (sym is)
+        (commit_step by d.before d.after book order s t stand.parts r kept c (setting_at (Committing r) is) (known_in (Committing r) is) sound told told_after
+        d.answer (made (run_ask r) (ap ask_of_work is)) new.work turn led.0))
+    works (Reading home w) is sound led =
+        goes_by (walk_ask w) (λ a. a) c (ap ask_of_work is)
+        (sym (ap (λ q. noted_at q (walk_ask w) (audit_of book order)) is ∙ nothing_noted (Reading home w) (walk_ask w) (audit_of book order) refl refl)) left
+        (subst (Stepped (walk_ask w) (λ a. a) c) (sym is)
+        (reading_step by d.before d.after book order s t stand.parts home w (setting_at (Reading home w) is) (λ later. (known_in (Reading home w) is later).0) (known_now (Reading home w) is).1
+        kept c (cache_now (Reading home w) is) told told_after d.answer (made (walk_ask w) (ap ask_of_work is)) new.buffer new.work new.shown turn led))
+    works (Scanning home m) is sound led =
+        goes_by (scan_ask m.scan) (λ a. a) c (ap ask_of_work is)
+        (sym (ap (λ q. noted_at q (scan_ask m.scan) (audit_of book order)) is ∙ nothing_noted (Scanning home m) (scan_ask m.scan) (audit_of book order) refl refl)) left
+        (subst (Stepped (scan_ask m.scan) (λ a. a) c) (sym is)
+        (scanning_step by d.before d.after book order s t stand.parts home m new.buffer (setting_at (Scanning home m) is) (λ later. (known_in (Scanning home m) is later).0)
+        (known_now (Scanning home m) is).1 kept c (cache_now (Scanning home m) is) told told_after d.answer (made (scan_ask m.scan) (ap ask_of_work is)) new.work new.shown turn led))
+    works (Looking home m) is sound led =
+        goes_by (look_ask m) (λ a. a) c (ap ask_of_work is)
+        (sym (ap (λ q. noted_at q (look_ask m) (audit_of book order)) is ∙ nothing_noted (Looking home m) (look_ask m) (audit_of book order) refl refl)) left
+        (subst (Stepped (look_ask m) (λ a. a) c) (sym is)
+        (looking_step by d.before d.after book order s t stand.parts home m new.buffer (setting_at (Looking home m) is) (λ later. (known_in (Looking home m) is later).0)
+        (known_now (Looking home m) is).1 kept c (cache_now (Looking home m) is) told told_after d.answer (made (look_ask m) (ap ask_of_work is)) new.work new.shown turn led))
+    works (Folding home m) is sound led =
+        goes_by (making_ask m) (making_note m (making_ask m)) c (ap ask_of_work is)
+        (sym (ap (λ q. noted_at q (making_ask m) (audit_of book order)) is ∙ making_noted home m (making_ask m) (audit_of book order))) left
+        (subst (Stepped (making_ask m) (making_note m (making_ask m)) c) (sym is)
+        (making_step by d.before d.after book order s t stand.parts home m (setting_at (Folding home m) is) (known_now (Folding home m) is).0 (known_now (Folding home m) is).1
+        c (same_cache c led.1 (cache_now (Folding home m) is)) told told_after d.answer (made (making_ask m) (ap ask_of_work is)) new.work turn led.0))
+    works (Paging home p) is sound led =
+        goes_by (paging_ask p) (paging_note p (paging_ask p)) c (ap ask_of_work is)
+        (sym (ap (λ q. noted_at q (paging_ask p) (audit_of book order)) is ∙ paging_noted home p (paging_ask p) (audit_of book order))) left
+        (subst (Stepped (paging_ask p) (paging_note p (paging_ask p)) c) (sym is)
+        (paging_step by d.before d.after book order s t stand.parts home p (setting_at (Paging home p) is) (known_now (Paging home p) is).0 (known_now (Paging home p) is).1
+        c (same_cache c led.1 (cache_now (Paging home p) is)) told told_after d.answer (made (paging_ask p) (ap ask_of_work is)) new.work turn led.0))
+    works (Closing l) is sound led =
+        goes_by (Release l) (λ a. a) c (ap ask_of_work is) (sym (ap (λ w. noted_at w (Release l) (audit_of book order)) is)) left
+        (subst (Stepped (Release l) (λ a. a) c) (sym is)
+        (closing_step by d.before d.after book order s t stand.parts l (setting_at (Closing l) is) (known_now (Closing l) is) c (same_cache c led.1 (cache_now (Closing l) is)) told told_after
+        d.answer (made (Release l) (ap ask_of_work is)) new.work turn led.0))
+    works (Renewing home) is sound led =
+        goes_by (Renew home.lease 600) (λ a. a) c (ap ask_of_work is) (sym (ap (λ w. noted_at w (Renew home.lease 600) (audit_of book order)) is)) left
+        (subst (Stepped (Renew home.lease 600) (λ a. a) c) (sym is)
+        (renewing_step by d.before d.after book order s t stand.parts home (setting_at (Renewing home) is) (known_in (Renewing home) is) c (same_cache c led.1 (cache_now (Renewing home) is))
+        told told_after d.answer (made (Renew home.lease 600) (ap ask_of_work is)) new.work (subst (λ w. RenewsHand d w (leases_of new.work)) is row.renewed) turn led.0))
+    works (Settling m) is sound led =
+        goes_by (settle_ask m) (settling_note m (settle_ask m)) c (ap ask_of_work is)
+        (sym (ap (λ q. noted_at q (settle_ask m) (audit_of book order)) is ∙ settling_noted m (settle_ask m) (audit_of book order))) left
+        (subst (Stepped (settle_ask m) (settling_note m (settle_ask m)) c) (sym is)
+        (settling_step by d.before d.after book order s t stand.parts m (setting_at (Settling m) is) (known_now (Settling m) is) sound
+        c (same_cache c led.1 (cache_now (Settling m) is)) told told_after d.answer (made (settle_ask m) (ap ask_of_work is)) new.work turn led.0))
+    works (Sweeping m) is sound led =
+        goes_by (sweep_ask m) (λ a. a) c (ap ask_of_work is)
+        (sym (ap (λ w. noted_at w (sweep_ask m) (audit_of book order)) is ∙ sweep_noted (Sweeping m) m (audit_of book order))) left
+        (subst (Stepped (sweep_ask m) (λ a. a) c) (sym is)
+        (sweeping_step by d.before d.after book order s t stand.parts m (setting_at (Sweeping m) is) (known_now (Sweeping m) is) c (same_cache c led.1 (cache_now (Sweeping m) is)) told told_after
+        d.answer (made (sweep_ask m) (ap ask_of_work is)) new.work turn led.0))
+    works Closed is sound never = absurd never
+    works (Idle home) is sound never = absurd never
+    works (Broken l) is sound never = absurd never
 
 -- what was noted may still be committed
 noted_may : (work : Work) (buffer : List Noted) → MayCommit buffer → MayCommit (noted_behind work buffer)
@@ -269,10 +260,45 @@ noted_may (Looking home m) buffer may = may
 noted_may (Settling m) buffer may = may
 noted_may (Sweeping m) buffer may = may
 
+-- Whatever a session saw when it took its step: where its call is a row of a cloud that stands with all its sessions, the cloud stands behind it.
+pub led_keeps : (d : Deed) (s t : CloudState) (book : Book) (order : List Entry) (sessions : Sessions) (new : Acting) (turn : Turn Answer) → d.before.state ≡ Some s → d.after.state ≡ Some t
+    → SessionsStand book order s sessions → LedOn (exchange_of d.ask d.answer turn) (sessions d.who.session) new → IsRow d (sessions d.who.session).work new.work
+    → Goes (ground book order s sessions) t d.who.session new
+led_keeps d s t book order sessions new turn told told_after stand led row =
+    let old : Acting = sessions d.who.session in
+    works d s t book order sessions new told told_after stand
+    (subst MayCommit (sym led.buffer) (noted_may old.work old.buffer (stand.each d.who.session).buffer)) turn led.cache led.hand led.kept row old.work refl led.sound led.led
+
+-- what is not at work drops nothing that was noted
+stays : (work : Work) (buffer : List Noted) → is_working work ≡ false → noted_behind work buffer ≡ buffer
+stays Closed buffer e = refl
+stays (Idle home) buffer e = refl
+stays (Broken l) buffer e = refl
+stays (Opening r) buffer e = refl
+stays (Committing w) buffer e = refl
+stays (Folding home f) buffer e = refl
+stays (Paging home p) buffer e = refl
+stays (Renewing home) buffer e = refl
+stays (Reading home m) buffer e = refl
+stays (Scanning home m) buffer e = refl
+stays (Looking home m) buffer e = refl
+stays (Settling m) buffer e = refl
+stays (Sweeping m) buffer e = refl
+stays (Closing l) buffer e = absurd (cc)
+
 -- a call of a session: any answer, landed or not
 pub session_keeps : (who : Caller) (before after : Seen) (s t : CloudState) (book : Book) (order : List Entry) (sessions : Sessions) (new : Acting) (result : Result (Turn Answer) Refused)
     → before.state ≡ Some s → after.state ≡ Some t → SessionsStand book order s sessions → StepsSession who before after (sessions who.session) new result
     → Goes (ground book order s sessions) t who.session new
-session_keeps who before after s t book order sessions new result told told_after stand steps =
-    steps_keep who before after s t book order sessions new told told_after stand
-    (subst MayCommit (sym steps.buffer) (noted_may (sessions who.session).work (sessions who.session).buffer (stand.each who.session).buffer)) result steps.buffer steps.shown steps.work
+session_keeps who before after s t book order sessions new (Ok turn) told told_after stand steps =
+    let x : SessionStep = session_step who before after (sessions who.session) new turn in
+    led_keeps (deed_of_step x steps) s t book order sessions new turn told told_after stand (led_of x steps) (row_of x steps)
+session_keeps who before after s t book order sessions new (Err (refused.Rule r)) told told_after stand steps =
+    idle_goes s t book order sessions who.session new (same_Some t s (sym told_after ∙ (ap (λ (x : Seen). x.state) steps.work.3 ∙ told)))
+    (λ i. record {
+      buffer = (steps.buffer ∙ stays (sessions who.session).work (sessions who.session).buffer steps.work.1) i;
+      work = steps.work.2 i;
+      cache = steps.shown.0 i;
+      shown = steps.shown.1 i;
+    }) stand
+session_keeps who before after s t book order sessions new (Err refused.Memory) told told_after stand steps = absurd steps.work

@@ -1,7 +1,7 @@
 -- One step of a session's commit, walks and writes.
 use Rattle.std.proofs.Common.{◌≡◌, ◌≢◌, ◌≤◌, ◌⊎◌, inl, inr, ℕ, List, [], ◌∷◌, Option, Some, None, refl, sym, ap, subst, ◌∙◌}
 use Rattle.std.specs.Prelude.{Bool, true, false, slice_get}
-use Rattle.client_work.specs.Session.{StepsCommit, committed_work}
+use Rattle.client_work.specs.Session.{committed_work}
 use Rattle.client_work.specs.declared.answer.Answer.{Answer}
 use Rattle.client_work.specs.declared.answer.Answer.TheVariants as answer
 use Rattle.client_work.specs.declared.work.Work.{Work}
@@ -36,6 +36,7 @@ use Rattle.page_cache.specs.Cache.{Cache}
 use Rattle.recover_run.specs.declared.home.Home.{Home}
 use Rattle.session_facts.specs.Sessions.Audited.{noted_head, noted_at}
 use Rattle.session_facts.specs.Sessions.Knows.{leases_of, KnowsWork}
+use Rattle.session_facts.specs.Sessions.Led.{LedCommit}
 use Rattle.session_facts.proofs.Sessions.Kept.{KnowsBoth, kept_from}
 use Rattle.session_facts.proofs.Sessions.Steps.Leases.{passage, IsStepOf}
 use Rattle.session_facts.proofs.Sessions.Troubles.{memory_or}
@@ -206,20 +207,20 @@ module _ (who : Caller) (before after : Seen) (book : Book) (order : List Entry)
           (gives_up who book order s t parts mine (run_ask r) note (KnowsRunNext (run_next (r, c) reply)) outcome);
     })
 
-  pub commit_step : (work : Work) (turn : Turn Answer) → StepsCommit who before after (r, c) (work, d) turn → Stepped work
-  commit_step work More (m, steps, is, less) = by_next steps.answer steps.made (Goes (m, d)) steps.took work (is, refl)
-  commit_step work (Ended (answer.Commit a)) (m, steps, is) = by_next steps.answer steps.made (Ends (m, d) a) steps.took work (is, refl)
-  commit_step work (Ended (answer.Trouble k)) (m, steps, is) = on (memory_or k)
-    where
-      on : (k ≡ trouble.Memory) ⊎ (k ≢ trouble.Memory) → Stepped work
-      on (inl memory) = by_memory steps.answer steps.made m (steps.took.1 memory) work is
-      on (inr other) = by_next steps.answer steps.made (Stops (m, d) k) (steps.took.0 other) work (is, refl)
-  commit_step work (Stopped k) never = absurd never
-  commit_step work (Ended answer.Closed) never = absurd never
-  commit_step work (Ended (answer.Renewed end)) never = absurd never
-  commit_step work (Ended (answer.Opened epoch)) never = absurd never
-  commit_step work (Ended (answer.Done n)) never = absurd never
-  commit_step work (Ended answer.Value) never = absurd never
-  commit_step work (Ended answer.Scan) never = absurd never
-  commit_step work (Ended (answer.Settled n)) never = absurd never
-  commit_step work (Ended (answer.Swept x)) never = absurd never
+    pub commit_step : (work : Work) (turn : Turn Answer) → LedCommit (r, c) reply (work, d) turn → Stepped work
+    commit_step work More (m, led, is) = by_next (Goes (m, d)) led work (is, refl)
+    commit_step work (Ended (answer.Commit a)) (m, led, is) = by_next (Ends (m, d) a) led work (is, refl)
+    commit_step work (Ended (answer.Trouble k)) (m, led, is) = on (memory_or k)
+      where
+        on : (k ≡ trouble.Memory) ⊎ (k ≢ trouble.Memory) → Stepped work
+        on (inl memory) = by_memory m (led.1 memory) work is
+        on (inr other) = by_next (Stops (m, d) k) (led.0 other) work (is, refl)
+    commit_step work (Stopped k) never = absurd never
+    commit_step work (Ended answer.Closed) never = absurd never
+    commit_step work (Ended (answer.Renewed end)) never = absurd never
+    commit_step work (Ended (answer.Opened epoch)) never = absurd never
+    commit_step work (Ended (answer.Done n)) never = absurd never
+    commit_step work (Ended answer.Value) never = absurd never
+    commit_step work (Ended answer.Scan) never = absurd never
+    commit_step work (Ended (answer.Settled n)) never = absurd never
+    commit_step work (Ended (answer.Swept x)) never = absurd never

@@ -1,7 +1,7 @@
 -- The one step of a close and of a renewal.
-use Rattle.std.proofs.Common.{◌≡◌, ◌≢◌, ◌≤◌, ◌⊎◌, inl, inr, ℕ, List, [], ◌∷◌, Some, Result, Ok, Err, refl, sym, ap, subst, ◌∙◌}
+use Rattle.std.proofs.Common.{◌≡◌, ◌≢◌, ◌≤◌, ◌⊎◌, inl, inr, ℕ, List, [], ◌∷◌, Some, refl, sym, ap, subst, ◌∙◌}
 use Rattle.std.proofs.lemmas.Bool.{cases_eq}
-use Rattle.client_work.specs.Session.{GivesBack, RenewsHome, StepsClosing, StepsRenewing, stopped_work}
+use Rattle.client_work.specs.Session.{stopped_work}
 use Rattle.client_work.specs.declared.answer.Answer.{Answer}
 use Rattle.client_work.specs.declared.answer.Answer.TheVariants as answer
 use Rattle.client_work.specs.declared.work.Work.{Work}
@@ -12,7 +12,7 @@ use Rattle.cloud_facts.proofs.Calls.Calls.{call_of, permitted}
 use Rattle.cloud_facts.proofs.Calls.Outcomes.{quiet, gives_up}
 use Rattle.cloud_trait.specs.declared.answer.Answer.TheVariants.{Renewed, Late, Failed, Memory}
 use Rattle.cloud_trait.specs.Claim.{extended}
-use Rattle.cloud_trait.specs.Weather.{leased, RenewsBoth, RenewsLease}
+use Rattle.cloud_trait.specs.Weather.{leased, Makes, RenewsBoth, RenewsLease}
 use Rattle.db_base.specs.declared.trouble.Trouble.TheVariants as trouble
 use Rattle.history.specs.Audited.{Audited}
 use Rattle.cloud_facts.specs.Homes.Homes.{Part, Away, AtHome, Parts, HomesHold}
@@ -20,6 +20,7 @@ use Rattle.cloud_facts.proofs.Homes.HomeLemmas.{renews_keeps}
 use Rattle.page_cache.specs.Cache.{Cache}
 use Rattle.recover_run.specs.declared.home.Home.{Home}
 use Rattle.session_facts.specs.Sessions.Knows.{leases_of, IsHome, KnowsWork}
+use Rattle.session_facts.specs.Sessions.Led.{LedClosing, LedRenewing}
 use Rattle.session_facts.proofs.Sessions.Kept.{KnowsBoth, with_cache}
 use Rattle.cloud_facts.proofs.Book.Names.{at_same, at_other}
 use Rattle.cloud_facts.proofs.Book.Places.{get_single, in_none}
@@ -55,39 +56,42 @@ part_again parts session part e = λ i n. same n (cases_eq n session) i
 module _ (who : Caller) (before after : Seen) (book : Book) (order : List Entry) (s t : CloudState) (parts : Parts) (lease : Claim)
     (setting : s.now ≤ t.now → Setting (footing book order s) t.now (actor parts who.session (lease ∷ []))) (part_is : parts who.session ≡ Away) (c : Cache) (kept : KnowsCache (store_of book order s) c)
     (e : before.state ≡ Some s) (f : after.state ≡ Some t) where
-  released : (work : Work) (result : Result (Unit {0}) Trouble) → GivesBack lease who before after result → work ≡ Closed
-      → IsStepOf (footing book order s) t parts (Release lease) (λ a. a) (passage who (Closing lease) work c)
-  released work result gives closed =
-      let call = call_of who (Release lease) gives.answer before after s t gives.made e f in
-      record {
-        reply = gives.answer;
-        call = call;
-        handles = record {
-          owns = (0, refl);
-          guarded = tt;
-          renewed = lease;
-          renews = tt;
-          own = λ x is. absurd (in_none [] x refl (subst (λ (w : Work). IsIn (leases_of w) x) closed is));
-        };
-        outcome = with_cache who book order s t parts (lease ∷ []) (Release lease) (λ a. a) c work kept
-            (quiet who book order s t parts (lease ∷ []) (Release lease) (λ a. a) (λ st now part. KnowsWork st now c work part) gives.answer call tt tt (setting call.later).cloud Away
-            (subst (HomesHold (store_of book order s).tally t.now) (sym (part_again parts who.session Away part_is)) (setting call.later).homes)
-            (subst (λ (w : Work). KnowsWork (store_of book order s) t.now c w Away) (sym closed) refl));
-      }
+  module _ (reply : Reply) (made : Makes who (Release lease) reply before after) where
+    abbrev Closes : Work → Type 0
+    Closes work = IsStepOf (footing book order s) t parts (Release lease) (λ a. a) (passage who (Closing lease) work c)
 
-  pub closing_step : (work : Work) (turn : Turn Answer) → StepsClosing lease who before after work turn → IsStepOf (footing book order s) t parts (Release lease) (λ a. a) (passage who (Closing lease) work c)
-  closing_step work (Ended answer.Closed) steps = released work (Ok tt) steps.0 steps.1
-  closing_step work (Ended (answer.Trouble k)) steps = released work (Err k) steps.0 steps.1
-  closing_step work More never = absurd never
-  closing_step work (Stopped k) never = absurd never
-  closing_step work (Ended (answer.Opened epoch)) never = absurd never
-  closing_step work (Ended (answer.Renewed end)) never = absurd never
-  closing_step work (Ended (answer.Commit a)) never = absurd never
-  closing_step work (Ended answer.Value) never = absurd never
-  closing_step work (Ended answer.Scan) never = absurd never
-  closing_step work (Ended (answer.Settled n)) never = absurd never
-  closing_step work (Ended (answer.Swept x)) never = absurd never
-  closing_step work (Ended (answer.Done n)) never = absurd never
+    released : (work : Work) → work ≡ Closed → Closes work
+    released work closed =
+        let call = call_of who (Release lease) reply before after s t made e f in
+        record {
+          reply = reply;
+          call = call;
+          handles = record {
+            owns = (0, refl);
+            guarded = tt;
+            renewed = lease;
+            renews = tt;
+            own = λ x is. absurd (in_none [] x refl (subst (λ (w : Work). IsIn (leases_of w) x) closed is));
+          };
+          outcome = with_cache who book order s t parts (lease ∷ []) (Release lease) (λ a. a) c work kept
+              (quiet who book order s t parts (lease ∷ []) (Release lease) (λ a. a) (λ st now part. KnowsWork st now c work part) reply call tt tt (setting call.later).cloud Away
+              (subst (HomesHold (store_of book order s).tally t.now) (sym (part_again parts who.session Away part_is)) (setting call.later).homes)
+              (subst (λ (w : Work). KnowsWork (store_of book order s) t.now c w Away) (sym closed) refl));
+        }
+
+    pub closing_step : (work : Work) (turn : Turn Answer) → LedClosing reply work turn → Closes work
+    closing_step work (Ended answer.Closed) (done, is) = released work is
+    closing_step work (Ended (answer.Trouble k)) (stopped, is) = released work is
+    closing_step work More never = absurd never
+    closing_step work (Stopped k) never = absurd never
+    closing_step work (Ended (answer.Opened epoch)) never = absurd never
+    closing_step work (Ended (answer.Renewed end)) never = absurd never
+    closing_step work (Ended (answer.Commit a)) never = absurd never
+    closing_step work (Ended answer.Value) never = absurd never
+    closing_step work (Ended answer.Scan) never = absurd never
+    closing_step work (Ended (answer.Settled n)) never = absurd never
+    closing_step work (Ended (answer.Swept x)) never = absurd never
+    closing_step work (Ended (answer.Done n)) never = absurd never
 
 -- ---- a renewal
 
@@ -115,9 +119,16 @@ module _ (who : Caller) (before after : Seen) (book : Book) (order : List Entry)
   abbrev st : Store
   st = store_of book order s
 
-  module _ (new : Home) (result : Result ℕ Trouble) (renews : RenewsHome home new who before after result) where
-    call : IsCall who (Renew home.lease 600) renews.answer s t
-    call = call_of who (Renew home.lease 600) renews.answer before after s t renews.made e f
+  module _ (reply : Reply) (made : Makes who (Renew home.lease 600) reply before after) where
+    call : IsCall who (Renew home.lease 600) reply s t
+    call = call_of who (Renew home.lease 600) reply before after s t made e f
+
+    abbrev Stepped : Work → Type 0
+    Stepped work = IsStepOf (footing book order s) t parts (Renew home.lease 600) (λ a. a) (passage who (Renewing home) work c)
+
+    -- what the renewal leaves of the lease
+    abbrev Renews : Claim → Type 0
+    Renews l = RenewsLease who 600 reply (leased home.lease before) (leased l after)
 
     setting : Setting (footing book order s) t.now (actor parts who.session (home.lease ∷ []))
     setting = set call.later
@@ -125,78 +136,85 @@ module _ (who : Caller) (before after : Seen) (book : Book) (order : List Entry)
     knows : KnowsHome st t.now (opened_client home.client home.lease home.head home.attempt) (parts who.session)
     knows = (knows_at call.later).at
 
-    both : RenewsBoth who 600 home.lease new.lease (called who t.now s) t
-    both = renews_both who home.lease new.lease renews.answer before after s t call e f renews.lease
+    module _ (l : Claim) (renews : Renews l) where
+      abbrev new : Home
+      new = record home { lease = l }
 
-    lasted : Lasts t.now new.lease → Lasts t.now home.lease
-    lasted = renewed_lasts who home.lease new.lease s t both
+      both : RenewsBoth who 600 home.lease l (called who t.now s) t
+      both = renews_both who home.lease l reply before after s t call e f renews
 
-    -- the part with the lease that is left
-    abbrev part : Part
-    part = AtHome (record knows.home { lease = new.lease })
+      lasted : Lasts t.now l → Lasts t.now home.lease
+      lasted = renewed_lasts who home.lease l s t both
 
-    homes : HomesHold st.tally t.now (at who.session part parts)
-    homes = renews_keeps st.tally t.now parts who.session knows.home new.lease knows.part_is (λ lasts. subst (Lasts t.now) (sym knows.lease_is) (lasted lasts)) setting.homes
+      -- the part with the lease that is left
+      abbrev part : Part
+      part = AtHome (record knows.home { lease = l })
 
-    home_after : IsHome st t.now (record home { lease = new.lease }) part
-    home_after = record {
-      at = record {
-        is_client = knows.is_client;
-        lock_is = renewed_lock who home.lease new.lease s t both ∙ knows.lock_is;
-        within = knows.within;
-        settled = knows.settled;
-        newest = λ lasts. knows.newest (lasted lasts);
-        home = record knows.home { lease = new.lease };
-        part_is = refl;
-        client_is = knows.client_is;
-        lease_is = refl;
-        epoch_is = knows.epoch_is;
-        begun = knows.begun;
-      };
-      trees = (knows_at call.later).trees;
-      of_records = (knows_at call.later).of_records;
-      counted = (knows_at call.later).counted;
-    }
+      homes : HomesHold st.tally t.now (at who.session part parts)
+      homes = renews_keeps st.tally t.now parts who.session knows.home l knows.part_is (λ lasts. subst (Lasts t.now) (sym knows.lease_is) (lasted lasts)) setting.homes
 
-    open_outcome : Outcome (footing book order s) t (actor parts who.session (home.lease ∷ [])) (Renew home.lease 600) (λ a. a) (λ su now p. IsHome su now new p)
-    open_outcome =
-        quiet who book order s t parts (home.lease ∷ []) (Renew home.lease 600) (λ a. a) (λ su now p. IsHome su now new p) renews.answer call tt tt setting.cloud part homes
-        (subst (λ h. IsHome st t.now h part) (sym renews.home) home_after)
+      home_after : IsHome st t.now new part
+      home_after = record {
+        at = record {
+          is_client = knows.is_client;
+          lock_is = renewed_lock who home.lease l s t both ∙ knows.lock_is;
+          within = knows.within;
+          settled = knows.settled;
+          newest = λ lasts. knows.newest (lasted lasts);
+          home = record knows.home { lease = l };
+          part_is = refl;
+          client_is = knows.client_is;
+          lease_is = refl;
+          epoch_is = knows.epoch_is;
+          begun = knows.begun;
+        };
+        trees = (knows_at call.later).trees;
+        of_records = (knows_at call.later).of_records;
+        counted = (knows_at call.later).counted;
+      }
 
-    hands : (work : Work) → ((x : Claim) → IsIn (leases_of work) x → x ≡ new.lease) → Handles (exchange who s t (Renew home.lease 600) renews.answer) (home.lease ∷ []) (leases_of work)
-    hands work only = record { owns = (0, refl); guarded = tt; renewed = new.lease; renews = both; own = λ x is. inr (only x is) }
+      open_outcome : Outcome (footing book order s) t (actor parts who.session (home.lease ∷ [])) (Renew home.lease 600) (λ a. a) (λ su now p. IsHome su now new p)
+      open_outcome = quiet who book order s t parts (home.lease ∷ []) (Renew home.lease 600) (λ a. a) (λ su now p. IsHome su now new p) reply call tt tt setting.cloud part homes home_after
 
-    stays_open : (work : Work) → work ≡ Idle new → IsStepOf (footing book order s) t parts (Renew home.lease 600) (λ a. a) (passage who (Renewing home) work c)
-    stays_open work is = subst (λ w. IsStepOf (footing book order s) t parts (Renew home.lease 600) (λ a. a) (passage who (Renewing home) w c)) (sym is) (record {
-      reply = renews.answer;
-      call = call;
-      handles = hands (Idle new) (λ x there. sym (get_single new.lease there.0 x there.1));
-      outcome = with_cache who book order s t parts (home.lease ∷ []) (Renew home.lease 600) (λ a. a) c (Idle new) kept open_outcome;
-    })
+      hands : (work : Work) → ((x : Claim) → IsIn (leases_of work) x → x ≡ l) → Handles (exchange who s t (Renew home.lease 600) reply) (home.lease ∷ []) (leases_of work)
+      hands work only = record { owns = (0, refl); guarded = tt; renewed = l; renews = both; own = λ x is. inr (only x is) }
 
-    breaks : (work : Work) → work ≡ Broken new.lease → IsStepOf (footing book order s) t parts (Renew home.lease 600) (λ a. a) (passage who (Renewing home) work c)
-    breaks work is = subst (λ w. IsStepOf (footing book order s) t parts (Renew home.lease 600) (λ a. a) (passage who (Renewing home) w c)) (sym is) (record {
-      reply = renews.answer;
-      call = call;
-      handles = hands (Broken new.lease) (λ x there. sym (get_single new.lease there.0 x there.1));
-      outcome = with_cache who book order s t parts (home.lease ∷ []) (Renew home.lease 600) (λ a. a) c (Broken new.lease) kept
-          (gives_up who book order s t parts (home.lease ∷ []) (Renew home.lease 600) (λ a. a) (λ su now p. IsHome su now new p) open_outcome);
-    })
+      stays_open : (work : Work) → work ≡ Idle new → Stepped work
+      stays_open work is = subst Stepped (sym is) (record {
+        reply = reply;
+        call = call;
+        handles = hands (Idle new) (λ x there. sym (get_single l there.0 x there.1));
+        outcome = with_cache who book order s t parts (home.lease ∷ []) (Renew home.lease 600) (λ a. a) c (Idle new) kept open_outcome;
+      })
 
-    by_trouble : (k : Trouble) (work : Work) → work ≡ stopped_work k new → IsStepOf (footing book order s) t parts (Renew home.lease 600) (λ a. a) (passage who (Renewing home) work c)
-    by_trouble trouble.Memory work is = breaks work is
-    by_trouble k work is = stays_open work is
+      breaks : (work : Work) → work ≡ Broken l → Stepped work
+      breaks work is = subst Stepped (sym is) (record {
+        reply = reply;
+        call = call;
+        handles = hands (Broken l) (λ x there. sym (get_single l there.0 x there.1));
+        outcome = with_cache who book order s t parts (home.lease ∷ []) (Renew home.lease 600) (λ a. a) c (Broken l) kept
+            (gives_up who book order s t parts (home.lease ∷ []) (Renew home.lease 600) (λ a. a) (λ su now p. IsHome su now new p) open_outcome);
+      })
 
-  pub renewing_step : (work : Work) (turn : Turn Answer) → StepsRenewing home who before after work turn → IsStepOf (footing book order s) t parts (Renew home.lease 600) (λ a. a) (passage who (Renewing home) work c)
-  renewing_step work (Ended (answer.Renewed end)) (new, renews, is) = stays_open new (Ok end) renews work is
-  renewing_step work (Ended (answer.Trouble k)) (new, renews, is) = by_trouble new (Err k) renews k work is
-  renewing_step work More never = absurd never
-  renewing_step work (Stopped k) never = absurd never
-  renewing_step work (Ended (answer.Opened epoch)) never = absurd never
-  renewing_step work (Ended answer.Closed) never = absurd never
-  renewing_step work (Ended (answer.Commit a)) never = absurd never
-  renewing_step work (Ended answer.Value) never = absurd never
-  renewing_step work (Ended answer.Scan) never = absurd never
-  renewing_step work (Ended (answer.Settled n)) never = absurd never
-  renewing_step work (Ended (answer.Swept x)) never = absurd never
-  renewing_step work (Ended (answer.Done n)) never = absurd never
+    -- of what is in hand behind it
+    module _ (work : Work) (renewed : (m : Claim) → IsIn (leases_of work) m → Renews m) where
+      in_hand : (l : Claim) (by : Work) → work ≡ by → IsIn (leases_of by) l → Renews l
+      in_hand l by is there = renewed l (subst (λ w. IsIn (leases_of w) l) (sym is) there)
+
+      by_trouble : (l : Claim) (k : Trouble) → work ≡ stopped_work k (record home { lease = l }) → Stepped work
+      by_trouble l trouble.Memory is = breaks l (in_hand l (Broken l) is (0, refl)) work is
+      by_trouble l k is = stays_open l (in_hand l (Idle (record home { lease = l })) is (0, refl)) work is
+
+      pub renewing_step : (turn : Turn Answer) → LedRenewing home reply work turn → Stepped work
+      renewing_step (Ended (answer.Renewed end)) (l, took, is) = stays_open l (in_hand l (Idle (record home { lease = l })) is (0, refl)) work is
+      renewing_step (Ended (answer.Trouble k)) (l, took, is) = by_trouble l k is
+      renewing_step More never = absurd never
+      renewing_step (Stopped k) never = absurd never
+      renewing_step (Ended (answer.Opened epoch)) never = absurd never
+      renewing_step (Ended answer.Closed) never = absurd never
+      renewing_step (Ended (answer.Commit a)) never = absurd never
+      renewing_step (Ended answer.Value) never = absurd never
+      renewing_step (Ended answer.Scan) never = absurd never
+      renewing_step (Ended (answer.Settled n)) never = absurd never
+      renewing_step (Ended (answer.Swept x)) never = absurd never
+      renewing_step (Ended (answer.Done n)) never = absurd never

@@ -1,7 +1,7 @@
 -- One step of a session's look-up: a get, which changes nothing.
 use Rattle.std.proofs.Common.{◌≡◌, ◌≢◌, ◌≤◌, ◌⊎◌, inl, inr, List, [], ◌∷◌, Some, sym, ap, subst, ◌∙◌}
 use Rattle.attr_index.specs.Look.{Own, Look, look_ask, look_next}
-use Rattle.client_work.specs.Session.{LooksBy, stopped_work, acting_of, in_hand}
+use Rattle.client_work.specs.Session.{stopped_work, acting_of, in_hand}
 use Rattle.client_work.specs.Shows.{own_of}
 use Rattle.client_work.specs.declared.answer.Answer.{Answer}
 use Rattle.client_work.specs.declared.answer.Answer.TheVariants as answer
@@ -19,6 +19,7 @@ use Rattle.recover_run.specs.declared.home.Home.{Home}
 use Rattle.session_facts.specs.Machines.Looks.Knows.{KnowsLook, KnowsLooking, LookLeads}
 use Rattle.session_facts.proofs.Machines.Looks.Outcome.{look_goes}
 use Rattle.session_facts.specs.Sessions.Knows.{IsHome}
+use Rattle.session_facts.specs.Sessions.Led.{LedLooking}
 use Rattle.session_facts.proofs.Sessions.Steps.Gets.{get_handles, get_out, broken_out}
 use Rattle.session_facts.proofs.Sessions.Steps.Leases.{passage, IsStepOf}
 use Rattle.session_facts.proofs.Sessions.Troubles.{stays_open}
@@ -84,18 +85,18 @@ module _ (who : Caller) (before after : Seen) (book : Book) (order : List Entry)
             let known : KnowsCache st d × MayStopWalk k = subst (LookLeads st MayStopWalk) (took other) leads in
             subst Stepped (sym (is ∙ stays_open home k other)) (ends known.0)
 
-  pub looking_step : (work : Work) (shown : Shown) (turn : Turn Answer) → LooksBy who before after (in_hand home l c) (acting_of buffer work d shown) turn → Stepped work
-  looking_step work shown More (n, steps, is, none, less) = subst Stepped (sym is) (goes_on steps.walked.answer steps.walked.made n steps.took)
-  looking_step work shown (Ended answer.Scan) (n, steps, is, some) =
-      let k : KnowsCache st d = subst (LookLeads st MayStopWalk) steps.took (leads steps.walked.answer steps.walked.made) in
-      subst Stepped (sym is) (ends steps.walked.answer steps.walked.made k)
-  looking_step work shown (Ended (answer.Trouble k)) (n, steps, is, none) = stops steps.walked.answer steps.walked.made n k work steps.took.0 is
-  looking_step work shown (Stopped k) never = absurd never
-  looking_step work shown (Ended answer.Closed) never = absurd never
-  looking_step work shown (Ended (answer.Renewed end)) never = absurd never
-  looking_step work shown (Ended (answer.Opened epoch)) never = absurd never
-  looking_step work shown (Ended (answer.Commit a)) never = absurd never
-  looking_step work shown (Ended (answer.Done n)) never = absurd never
-  looking_step work shown (Ended answer.Value) never = absurd never
-  looking_step work shown (Ended (answer.Settled n)) never = absurd never
-  looking_step work shown (Ended (answer.Swept x)) never = absurd never
+    pub looking_step : (work : Work) (shown : Shown) (turn : Turn Answer) → LedLooking (in_hand home l c) reply (acting_of buffer work d shown) turn → Stepped work
+    looking_step work shown More (n, led, is, none) = subst Stepped (sym is) (goes_on n led)
+    looking_step work shown (Ended answer.Scan) (n, led, is, some) =
+        let k : KnowsCache st d = subst (LookLeads st MayStopWalk) led leads in
+        subst Stepped (sym is) (ends k)
+    looking_step work shown (Ended (answer.Trouble k)) (n, led, is, none) = stops n k work led.0 is
+    looking_step work shown (Stopped k) never = absurd never
+    looking_step work shown (Ended answer.Closed) never = absurd never
+    looking_step work shown (Ended (answer.Renewed end)) never = absurd never
+    looking_step work shown (Ended (answer.Opened epoch)) never = absurd never
+    looking_step work shown (Ended (answer.Commit a)) never = absurd never
+    looking_step work shown (Ended (answer.Done n)) never = absurd never
+    looking_step work shown (Ended answer.Value) never = absurd never
+    looking_step work shown (Ended (answer.Settled n)) never = absurd never
+    looking_step work shown (Ended (answer.Swept x)) never = absurd never

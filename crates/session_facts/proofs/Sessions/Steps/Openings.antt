@@ -1,6 +1,6 @@
 -- One step of a session's opening.
 use Rattle.std.proofs.Common.{◌≡◌, ◌≤◌, ℕ, List, [], Option, Some, None, refl, sym, ap, subst, ◌∙◌}
-use Rattle.client_work.specs.Session.{StepsOpening, opened_work}
+use Rattle.client_work.specs.Session.{opened_work}
 use Rattle.client_work.specs.declared.answer.Answer.{Answer}
 use Rattle.client_work.specs.declared.answer.Answer.TheVariants as answer
 use Rattle.client_work.specs.declared.work.Work.{Work}
@@ -18,6 +18,7 @@ use Rattle.page_cache.specs.Cache.{Cache}
 use Rattle.recover_run.specs.declared.home.Home.{Home}
 use Rattle.recover_run.specs.Recovery.{Recovery, Step, recovery_ask, recovery_next, home_of, IsSound}
 use Rattle.session_facts.specs.Sessions.Knows.{leases_of, KnowsWork}
+use Rattle.session_facts.specs.Sessions.Led.{LedOpening}
 use Rattle.session_facts.proofs.Sessions.Kept.{with_cache}
 use Rattle.session_facts.proofs.Sessions.Steps.Leases.{passage, IsStepOf}
 use Rattle.cloud_facts.proofs.Book.Places.{in_none}
@@ -83,16 +84,16 @@ module _ (who : Caller) (before after : Seen) (book : Book) (order : List Entry)
           (gives_up who book order s t parts (leases_of_recovery r) (recovery_ask r) (λ a. a) (KnowsNext (recovery_next r reply)) outcome);
     })
 
-  pub opening_step : (work : Work) (turn : Turn Answer) → StepsOpening who before after r work turn → Stepped work
-  opening_step work More (m, steps, is, less) = by_next steps.answer steps.made (Goes m) steps.took work is
-  opening_step work (Ended (answer.Opened epoch)) (m, steps, is) = by_next steps.answer steps.made _ steps.took work is
-  opening_step work (Ended (answer.Trouble k)) (m, steps, is) = by_end steps.answer steps.made work is
-  opening_step work (Stopped k) never = absurd never
-  opening_step work (Ended answer.Closed) never = absurd never
-  opening_step work (Ended (answer.Renewed end)) never = absurd never
-  opening_step work (Ended (answer.Commit a)) never = absurd never
-  opening_step work (Ended answer.Value) never = absurd never
-  opening_step work (Ended answer.Scan) never = absurd never
-  opening_step work (Ended (answer.Settled n)) never = absurd never
-  opening_step work (Ended (answer.Swept x)) never = absurd never
-  opening_step work (Ended (answer.Done n)) never = absurd never
+    pub opening_step : (work : Work) (turn : Turn Answer) → LedOpening r reply work turn → Stepped work
+    opening_step work More (m, led, is) = by_next (Goes m) led work is
+    opening_step work (Ended (answer.Opened epoch)) (m, led, is) = by_next _ led work is
+    opening_step work (Ended (answer.Trouble k)) (m, led, is) = by_end work is
+    opening_step work (Stopped k) never = absurd never
+    opening_step work (Ended answer.Closed) never = absurd never
+    opening_step work (Ended (answer.Renewed end)) never = absurd never
+    opening_step work (Ended (answer.Commit a)) never = absurd never
+    opening_step work (Ended answer.Value) never = absurd never
+    opening_step work (Ended answer.Scan) never = absurd never
+    opening_step work (Ended (answer.Settled n)) never = absurd never
+    opening_step work (Ended (answer.Swept x)) never = absurd never
+    opening_step work (Ended (answer.Done n)) never = absurd never

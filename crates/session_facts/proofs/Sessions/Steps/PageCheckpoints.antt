@@ -3,7 +3,7 @@ use Rattle.std.proofs.Common.{◌≡◌, ◌≤◌, ℕ, List, [], ◌∷◌, So
 use Rattle.session_facts.specs.Machines.PageCheckpoints.Knows.{KnowsPaging, KnowsAfter, paging_note}
 use Rattle.session_facts.proofs.Machines.PageCheckpoints.Hands.{paging_handles, paging_home_handles}
 use Rattle.session_facts.proofs.Machines.PageCheckpoints.Outcome.{paging_outcome}
-use Rattle.client_work.specs.Session.{StepsPaging, stopped_work}
+use Rattle.client_work.specs.Session.{stopped_work}
 use Rattle.client_work.specs.declared.answer.Answer.{Answer}
 use Rattle.client_work.specs.declared.answer.Answer.TheVariants as answer
 use Rattle.client_work.specs.declared.work.Work.{Work}
@@ -24,6 +24,7 @@ use Rattle.page_cache.specs.Cache.{Cache}
 use Rattle.recover_run.specs.declared.home.Home.{Home}
 use Rattle.session_facts.specs.Sessions.Audited.{noted_at}
 use Rattle.session_facts.specs.Sessions.Knows.{leases_of, IsHome, KnowsWork}
+use Rattle.session_facts.specs.Sessions.Led.{LedPaging}
 use Rattle.session_facts.proofs.Sessions.Kept.{KnowsBoth, with_cache}
 use Rattle.session_facts.proofs.Sessions.Steps.Leases.{passage, IsStepOf}
 use Rattle.cloud_facts.specs.Book.Growth.{Grows}
@@ -135,16 +136,16 @@ module _ (who : Caller) (before after : Seen) (book : Book) (order : List Entry)
     stops (trouble.Loop page) work is = ends work is
     stops (trouble.Exhausted what) work is = ends work is
 
-  pub paging_step : (work : Work) (turn : Turn Answer) → StepsPaging who before after (home, p) work turn → Stepped work
-  paging_step work More (n, steps, is, less) = subst Stepped (sym is) (goes_on steps.answer steps.made n steps.took)
-  paging_step work (Ended (answer.Done done)) (n, steps, is) = ends steps.answer steps.made work is
-  paging_step work (Ended (answer.Trouble k)) (n, steps, is) = stops steps.answer steps.made k work is
-  paging_step work (Stopped k) never = absurd never
-  paging_step work (Ended answer.Closed) never = absurd never
-  paging_step work (Ended (answer.Renewed end)) never = absurd never
-  paging_step work (Ended (answer.Opened epoch)) never = absurd never
-  paging_step work (Ended (answer.Commit a)) never = absurd never
-  paging_step work (Ended answer.Value) never = absurd never
-  paging_step work (Ended answer.Scan) never = absurd never
-  paging_step work (Ended (answer.Settled n)) never = absurd never
-  paging_step work (Ended (answer.Swept x)) never = absurd never
+    pub paging_step : (work : Work) (turn : Turn Answer) → LedPaging (home, p) reply work turn → Stepped work
+    paging_step work More (n, led, is) = subst Stepped (sym is) (goes_on n led)
+    paging_step work (Ended (answer.Done done)) (n, led, is) = ends work is
+    paging_step work (Ended (answer.Trouble k)) (n, led, is) = stops k work is
+    paging_step work (Stopped k) never = absurd never
+    paging_step work (Ended answer.Closed) never = absurd never
+    paging_step work (Ended (answer.Renewed end)) never = absurd never
+    paging_step work (Ended (answer.Opened epoch)) never = absurd never
+    paging_step work (Ended (answer.Commit a)) never = absurd never
+    paging_step work (Ended answer.Value) never = absurd never
+    paging_step work (Ended answer.Scan) never = absurd never
+    paging_step work (Ended (answer.Settled n)) never = absurd never
+    paging_step work (Ended (answer.Swept x)) never = absurd never

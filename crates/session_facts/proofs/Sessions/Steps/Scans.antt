@@ -1,6 +1,6 @@
 -- One step of a session's scan: a get, which changes nothing, and behind it the records of a leaf where the scan is at one.
 use Rattle.std.proofs.Common.{◌≡◌, ◌≢◌, ◌≤◌, ◌⊎◌, inl, inr, ℕ, List, [], ◌∷◌, Some, sym, ap, subst, ◌∙◌}
-use Rattle.client_work.specs.Session.{StepsScanning, Follows, ListsLeaf, stopped_work, acting_of, in_hand}
+use Rattle.client_work.specs.Session.{Follows, ListsLeaf, stopped_work, acting_of, in_hand}
 use Rattle.client_work.specs.declared.answer.Answer.{Answer}
 use Rattle.client_work.specs.declared.answer.Answer.TheVariants as answer
 use Rattle.client_work.specs.declared.listing.Listing.{Listing}
@@ -20,6 +20,7 @@ use Rattle.recover_run.specs.declared.home.Home.{Home}
 use Rattle.session_facts.specs.Machines.Scans.Knows.{KnowsScan, KnowsScanning, IsAtScannedLeaf, ScanLeads}
 use Rattle.session_facts.proofs.Machines.Scans.Outcome.{scan_goes, scan_moves_on}
 use Rattle.session_facts.specs.Sessions.Knows.{IsHome}
+use Rattle.session_facts.specs.Sessions.Led.{LedScanning}
 use Rattle.session_facts.proofs.Sessions.Steps.Gets.{get_handles, get_out, broken_out}
 use Rattle.session_facts.proofs.Sessions.Steps.Leases.{passage, IsStepOf}
 use Rattle.session_facts.proofs.Sessions.Troubles.{stays_open}
@@ -106,5 +107,5 @@ module _ (who : Caller) (before after : Seen) (book : Book) (order : List Entry)
         lists m page work shown turn k.0 k.1 listed
     follows m (Stopped k) work shown turn took (is, none, stopped) = stops m k work took.0 is
 
-  pub scanning_step : (work : Work) (shown : Shown) (turn : Turn Answer) → StepsScanning who before after (in_hand home l c) (acting_of buffer work d shown) turn → Stepped work
-  scanning_step work shown turn p = follows p.steps.answer p.steps.made p.scan p.moved work shown turn p.steps.took p.follows
+    pub scanning_step : (work : Work) (shown : Shown) (turn : Turn Answer) → LedScanning (in_hand home l c) reply (acting_of buffer work d shown) turn → Stepped work
+    scanning_step work shown turn p = follows p.scan p.moved work shown turn p.led p.follows

@@ -1,6 +1,5 @@
 -- One step of a session's settling.
 use Rattle.std.proofs.Common.{◌≡◌, ◌≤◌, List, Some, refl, sym, subst}
-use Rattle.client_work.specs.Session.{StepsSettling}
 use Rattle.client_work.specs.declared.answer.Answer.{Answer}
 use Rattle.client_work.specs.declared.answer.Answer.TheVariants as answer
 use Rattle.client_work.specs.declared.work.Work.{Work}
@@ -17,6 +16,7 @@ use Rattle.cloud_facts.specs.Homes.Homes.{Parts}
 use Rattle.page_cache.specs.Cache.{Cache}
 use Rattle.session_facts.specs.Sessions.Audited.{noted_at}
 use Rattle.session_facts.specs.Sessions.Knows.{KnowsWork}
+use Rattle.session_facts.specs.Sessions.Led.{LedSettling}
 use Rattle.session_facts.proofs.Sessions.Kept.{with_cache}
 use Rattle.session_facts.proofs.Sessions.Steps.Leases.{passage, IsStepOf}
 use Rattle.session_facts.specs.Machines.Settlings.Knows.{KnowsSettling, KnowsAfter, leases_of_settling, settling_note}
@@ -78,16 +78,16 @@ module _ (who : Caller) (before after : Seen) (book : Book) (order : List Entry)
           (gives_up who book order s t parts (leases_of_settling m) (settle_ask m) note (KnowsAfter m reply) outcome);
     }
 
-  pub settling_step : (work : Work) (turn : Turn Answer) → StepsSettling who before after m work turn → Stepped work
-  settling_step work More (n, steps, is, less) = subst Stepped (sym is) (goes_on steps.did.answer steps.did.made n steps.did.took)
-  settling_step work (Ended (answer.Settled n)) (left, steps, is) = subst Stepped (sym is) (ends steps.did.answer steps.did.made)
-  settling_step work (Ended (answer.Trouble k)) (left, steps, is) = subst Stepped (sym is) (ends steps.did.answer steps.did.made)
-  settling_step work (Stopped k) never = absurd never
-  settling_step work (Ended answer.Closed) never = absurd never
-  settling_step work (Ended (answer.Renewed end)) never = absurd never
-  settling_step work (Ended (answer.Opened epoch)) never = absurd never
-  settling_step work (Ended (answer.Commit a)) never = absurd never
-  settling_step work (Ended (answer.Done n)) never = absurd never
-  settling_step work (Ended answer.Value) never = absurd never
-  settling_step work (Ended answer.Scan) never = absurd never
-  settling_step work (Ended (answer.Swept x)) never = absurd never
+    pub settling_step : (work : Work) (turn : Turn Answer) → LedSettling m reply work turn → Stepped work
+    settling_step work More (n, led, is) = subst Stepped (sym is) (goes_on n led)
+    settling_step work (Ended (answer.Settled n)) (left, led, is) = subst Stepped (sym is) ends
+    settling_step work (Ended (answer.Trouble k)) (left, led, is) = subst Stepped (sym is) ends
+    settling_step work (Stopped k) never = absurd never
+    settling_step work (Ended answer.Closed) never = absurd never
+    settling_step work (Ended (answer.Renewed end)) never = absurd never
+    settling_step work (Ended (answer.Opened epoch)) never = absurd never
+    settling_step work (Ended (answer.Commit a)) never = absurd never
+    settling_step work (Ended (answer.Done n)) never = absurd never
+    settling_step work (Ended answer.Value) never = absurd never
+    settling_step work (Ended answer.Scan) never = absurd never
+    settling_step work (Ended (answer.Swept x)) never = absurd never

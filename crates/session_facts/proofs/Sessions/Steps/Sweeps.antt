@@ -1,6 +1,5 @@
 -- One step of a session's sweep.
 use Rattle.std.proofs.Common.{◌≡◌, ◌≤◌, List, Some, sym, subst}
-use Rattle.client_work.specs.Session.{StepsSweeping}
 use Rattle.client_work.specs.declared.answer.Answer.{Answer}
 use Rattle.client_work.specs.declared.answer.Answer.TheVariants as answer
 use Rattle.client_work.specs.declared.work.Work.{Work}
@@ -15,6 +14,7 @@ use Rattle.history.specs.Audited.{Audited}
 use Rattle.orphan_sweep.specs.Sweeping.{Sweeping, sweep_ask, sweep_next}
 use Rattle.page_cache.specs.Cache.{Cache}
 use Rattle.session_facts.specs.Sessions.Knows.{KnowsWork}
+use Rattle.session_facts.specs.Sessions.Led.{LedSweeping}
 use Rattle.session_facts.specs.Machines.Sweeps.Knows.{KnowsSweep, KnowsNext, KnowsAfter, leases_of_sweep}
 use Rattle.session_facts.specs.Machines.Walks.Caches.{KnowsCache}
 use Rattle.session_facts.proofs.Sessions.Kept.{with_cache}
@@ -59,16 +59,16 @@ module _ (who : Caller) (before after : Seen) (book : Book) (order : List Entry)
           (gives_up who book order s t parts (leases_of_sweep m) (sweep_ask m) note (KnowsAfter m reply) outcome);
     }
 
-  pub sweeping_step : (work : Work) (turn : Turn Answer) → StepsSweeping who before after m work turn → Stepped work
-  sweeping_step work More (n, steps, is, less) = subst Stepped (sym is) (goes_on steps.did.answer steps.did.made n steps.did.took)
-  sweeping_step work (Ended (answer.Swept x)) (left, steps, is) = subst Stepped (sym is) (ends steps.did.answer steps.did.made)
-  sweeping_step work (Ended (answer.Trouble k)) (left, steps, is) = subst Stepped (sym is) (ends steps.did.answer steps.did.made)
-  sweeping_step work (Stopped k) never = absurd never
-  sweeping_step work (Ended answer.Closed) never = absurd never
-  sweeping_step work (Ended (answer.Renewed end)) never = absurd never
-  sweeping_step work (Ended (answer.Opened epoch)) never = absurd never
-  sweeping_step work (Ended (answer.Commit a)) never = absurd never
-  sweeping_step work (Ended (answer.Done n)) never = absurd never
-  sweeping_step work (Ended answer.Value) never = absurd never
-  sweeping_step work (Ended answer.Scan) never = absurd never
-  sweeping_step work (Ended (answer.Settled n)) never = absurd never
+    pub sweeping_step : (work : Work) (turn : Turn Answer) → LedSweeping m reply work turn → Stepped work
+    sweeping_step work More (n, led, is) = subst Stepped (sym is) (goes_on n led)
+    sweeping_step work (Ended (answer.Swept x)) (left, led, is) = subst Stepped (sym is) ends
+    sweeping_step work (Ended (answer.Trouble k)) (left, led, is) = subst Stepped (sym is) ends
+    sweeping_step work (Stopped k) never = absurd never
+    sweeping_step work (Ended answer.Closed) never = absurd never
+    sweeping_step work (Ended (answer.Renewed end)) never = absurd never
+    sweeping_step work (Ended (answer.Opened epoch)) never = absurd never
+    sweeping_step work (Ended (answer.Commit a)) never = absurd never
+    sweeping_step work (Ended (answer.Done n)) never = absurd never
+    sweeping_step work (Ended answer.Value) never = absurd never
+    sweeping_step work (Ended answer.Scan) never = absurd never
+    sweeping_step work (Ended (answer.Settled n)) never = absurd never

@@ -1,6 +1,6 @@
 -- One step of a session's tree checkpoint.
 use Rattle.std.proofs.Common.{◌≡◌, ◌≤◌, ℕ, List, [], ◌∷◌, Some, refl, sym, subst}
-use Rattle.client_work.specs.Session.{StepsFolding, stopped_work}
+use Rattle.client_work.specs.Session.{stopped_work}
 use Rattle.client_work.specs.declared.answer.Answer.{Answer}
 use Rattle.client_work.specs.declared.answer.Answer.TheVariants as answer
 use Rattle.client_work.specs.declared.work.Work.{Work}
@@ -20,6 +20,7 @@ use Rattle.page_cache.specs.Cache.{Cache}
 use Rattle.recover_run.specs.declared.home.Home.{Home}
 use Rattle.session_facts.specs.Sessions.Audited.{noted_at}
 use Rattle.session_facts.specs.Sessions.Knows.{leases_of, IsHome, KnowsWork}
+use Rattle.session_facts.specs.Sessions.Led.{LedFolding}
 use Rattle.session_facts.proofs.Sessions.Kept.{KnowsBoth, with_cache}
 use Rattle.session_facts.proofs.Sessions.Steps.Leases.{passage, IsStepOf}
 use Rattle.cloud_facts.specs.Book.Growth.{Grows}
@@ -140,16 +141,16 @@ module _ (who : Caller) (before after : Seen) (book : Book) (order : List Entry)
     stops (trouble.Loop page) work is = ends work is
     stops (trouble.Exhausted what) work is = ends work is
 
-  pub making_step : (work : Work) (turn : Turn Answer) → StepsFolding who before after (home, m) work turn → Stepped work
-  making_step work More (n, steps, is, less) = subst Stepped (sym is) (goes_on steps.answer steps.made n steps.took)
-  making_step work (Ended (answer.Done done)) (n, steps, is) = ends steps.answer steps.made work is
-  making_step work (Ended (answer.Trouble k)) (n, steps, is) = stops steps.answer steps.made k work is
-  making_step work (Stopped k) never = absurd never
-  making_step work (Ended answer.Closed) never = absurd never
-  making_step work (Ended (answer.Renewed end)) never = absurd never
-  making_step work (Ended (answer.Opened epoch)) never = absurd never
-  making_step work (Ended (answer.Commit a)) never = absurd never
-  making_step work (Ended answer.Value) never = absurd never
-  making_step work (Ended answer.Scan) never = absurd never
-  making_step work (Ended (answer.Settled n)) never = absurd never
-  making_step work (Ended (answer.Swept x)) never = absurd never
+    pub making_step : (work : Work) (turn : Turn Answer) → LedFolding (home, m) reply work turn → Stepped work
+    making_step work More (n, led, is) = subst Stepped (sym is) (goes_on n led)
+    making_step work (Ended (answer.Done done)) (n, led, is) = ends work is
+    making_step work (Ended (answer.Trouble k)) (n, led, is) = stops k work is
+    making_step work (Stopped k) never = absurd never
+    making_step work (Ended answer.Closed) never = absurd never
+    making_step work (Ended (answer.Renewed end)) never = absurd never
+    making_step work (Ended (answer.Opened epoch)) never = absurd never
+    making_step work (Ended (answer.Commit a)) never = absurd never
+    making_step work (Ended answer.Value) never = absurd never
+    making_step work (Ended answer.Scan) never = absurd never
+    making_step work (Ended (answer.Settled n)) never = absurd never
+    making_step work (Ended (answer.Swept x)) never = absurd never

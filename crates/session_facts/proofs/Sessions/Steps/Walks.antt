@@ -1,6 +1,6 @@
 -- One step of a session's read: a get, which changes nothing.
 use Rattle.std.proofs.Common.{◌≡◌, ◌≢◌, ◌≤◌, ◌⊎◌, inl, inr, List, [], ◌∷◌, Some, sym, ap, subst, ◌∙◌}
-use Rattle.client_work.specs.Session.{ReadsBy, stopped_work, acting_of, in_hand}
+use Rattle.client_work.specs.Session.{stopped_work, acting_of, in_hand}
 use Rattle.client_work.specs.declared.answer.Answer.{Answer}
 use Rattle.client_work.specs.declared.answer.Answer.TheVariants as answer
 use Rattle.client_work.specs.declared.shown.Shown.{Shown}
@@ -16,6 +16,7 @@ use Rattle.txn_buffer.specs.Noted.{Noted}
 use Rattle.page_cache.specs.Cache.{Cache}
 use Rattle.recover_run.specs.declared.home.Home.{Home}
 use Rattle.session_facts.specs.Sessions.Knows.{IsHome}
+use Rattle.session_facts.specs.Sessions.Led.{LedReading}
 use Rattle.session_facts.proofs.Sessions.Steps.Gets.{get_handles, get_out, broken_out}
 use Rattle.session_facts.proofs.Sessions.Steps.Leases.{passage, IsStepOf}
 use Rattle.session_facts.proofs.Sessions.Troubles.{stays_open}
@@ -78,18 +79,18 @@ module _ (who : Caller) (before after : Seen) (book : Book) (order : List Entry)
             let known : KnowsWalking st n d × MayStopWalk k = subst (WalkLeads st MayStopWalk) (took other) leads in
             subst Stepped (sym (is ∙ stays_open home k other)) (ends known.0.cache)
 
-  pub reading_step : (buffer : List Noted) (work : Work) (shown : Shown) (turn : Turn Answer) → ReadsBy who before after (in_hand home w c) (acting_of buffer work d shown) turn → Stepped work
-  reading_step buffer work shown More (n, steps, is, none) = subst Stepped (sym is) (goes_on steps.answer steps.made n steps.took)
-  reading_step buffer work shown (Ended answer.Value) (n, page, steps, at, is, some) =
-      let k : KnowsWalking st n d × IsAtSeenLeaf st n d page = subst (WalkLeads st MayStopWalk) steps.took (leads steps.answer steps.made) in
-      subst Stepped (sym is) (ends steps.answer steps.made k.0.cache)
-  reading_step buffer work shown (Ended (answer.Trouble k)) (n, steps, is, none) = stops steps.answer steps.made n k work steps.took.0 is
-  reading_step buffer work shown (Stopped k) never = absurd never
-  reading_step buffer work shown (Ended answer.Closed) never = absurd never
-  reading_step buffer work shown (Ended (answer.Renewed end)) never = absurd never
-  reading_step buffer work shown (Ended (answer.Opened epoch)) never = absurd never
-  reading_step buffer work shown (Ended (answer.Commit a)) never = absurd never
-  reading_step buffer work shown (Ended (answer.Done n)) never = absurd never
-  reading_step buffer work shown (Ended answer.Scan) never = absurd never
-  reading_step buffer work shown (Ended (answer.Settled n)) never = absurd never
-  reading_step buffer work shown (Ended (answer.Swept x)) never = absurd never
+    pub reading_step : (buffer : List Noted) (work : Work) (shown : Shown) (turn : Turn Answer) → LedReading (in_hand home w c) reply (acting_of buffer work d shown) turn → Stepped work
+    reading_step buffer work shown More (n, led, is, none) = subst Stepped (sym is) (goes_on n led)
+    reading_step buffer work shown (Ended answer.Value) (n, page, led, is, some) =
+        let k : KnowsWalking st n d × IsAtSeenLeaf st n d page = subst (WalkLeads st MayStopWalk) led leads in
+        subst Stepped (sym is) (ends k.0.cache)
+    reading_step buffer work shown (Ended (answer.Trouble k)) (n, led, is, none) = stops n k work led.0 is
+    reading_step buffer work shown (Stopped k) never = absurd never
+    reading_step buffer work shown (Ended answer.Closed) never = absurd never
+    reading_step buffer work shown (Ended (answer.Renewed end)) never = absurd never
+    reading_step buffer work shown (Ended (answer.Opened epoch)) never = absurd never
+    reading_step buffer work shown (Ended (answer.Commit a)) never = absurd never
+    reading_step buffer work shown (Ended (answer.Done n)) never = absurd never
+    reading_step buffer work shown (Ended answer.Scan) never = absurd never
+    reading_step buffer work shown (Ended (answer.Settled n)) never = absurd never
+    reading_step buffer work shown (Ended (answer.Swept x)) never = absurd never

@@ -6,8 +6,8 @@ pub invariant_of-self : goal.invariant_of-self
 invariant_of-self c =
     let some : 1 ≤ c.get-number.result = omega (arith, c.get-number.ensures.range, c.if-number-eq0.false) in
     let found = sym c.place_of.ensures ∙ c.in-Some.is in
-    let within : c.in-Some.place < c.args.self.now.kept.len =
-        omega (arith, c.args.self.now.kept.ok.0, stands-within c.args.self.now.kept.items c.get-number.result c.in-Some.place found) in
+    let stands = stands-within c.args.self.now.kept.items c.get-number.result c.in-Some.place found in
+    let within : c.in-Some.place < c.args.self.now.kept.len = omega (arith, c.args.self.now.kept.ok.0, stands) in
     record {
       kept_are = of-given c.remove.result _ _ (c.remove.ensures.succeeds 0 within) c.remove.ensures.items ∙ rw c.mark_in.ensures
           (marks c.args.self.now.messages.items c.args.self.now.kept.items c.get-number.result c.in-Some.place c.args.self.now.kept_are some found);

@@ -3,7 +3,7 @@
 if [ -n "${PROGRAM:-}" ]; then
     program=$PROGRAM
 else
-    program=$("$top/s3db" version 2>&1 | sed -n 's/^proved program: //p')
+    program=$("$top/s3db" version | sed -n 's/^proved program: //p')
 fi
 if [ ! -x "$program" ]; then
     echo "nothing is timed: no proved program of these sources stands here; S3DB=prove ./s3db replay </dev/null makes it" >&2

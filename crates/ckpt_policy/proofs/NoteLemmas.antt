@@ -1,5 +1,5 @@
 -- What one note more says of each queue.
-use Rattle.std.proofs.Common.{◌≡◌, ◌+◌, ◌<◌, ℕ, suc, Bool, true, false, if◌then◌else◌, cond, ◌||◌, List, [], ◌∷◌, ◌++◌, map, Option, Some, None, refl, sym, ap, subst, ◌∙◌, arith}
+use Rattle.std.proofs.Common.{◌≡◌, ◌+◌, ◌<◌, ℕ, suc, Bool, true, false, if◌then◌else◌, cond, ◌||◌, List, [], ◌∷◌, ◌++◌, map, Option, Some, None, Result, Ok, Err, refl, sym, ap, subst, ◌∙◌, arith}
 use Rattle.std.specs.List.{AllByRecursion, count_by, fold, list_any}
 use Rattle.std.specs.List.Sorted.{IsStrictlySortedBy}
 use Rattle.std.specs.declared.cmp.Ordering.{Ordering}
@@ -7,6 +7,7 @@ use Rattle.std.specs.declared.cmp.Ordering.TheVariants.{Less, Equal, Greater}
 use Rattle.std.specs.Cmp.{IsTotalOrder, ranks}
 use Rattle.std.specs.Map.{keys_of, lookup}
 use Rattle.std.specs.Option.{unwrap_or}
+use Rattle.std.specs.Prelude.{OnErr}
 use Rattle.ckpt_policy.specs.contracts.place.PlaceOrd.TheImpl.Laws as places
 use Rattle.std.specs.Ordering.{is_eq, match_ordering, nat_cmp, ordering_reverse, ordering_then, MatchOrdering}
 use Rattle.std.proofs.lemmas.List.{append_assoc, append-nil}
@@ -16,8 +17,8 @@ use Rattle.ckpt_policy.specs.declared.counts.Counts.{Counts}
 use Rattle.ckpt_policy.specs.declared.note.Note.{Note}
 use Rattle.ckpt_policy.specs.declared.note.Note.TheVariants.{Sent, Got, Kept}
 use Rattle.ckpt_policy.specs.declared.place.Place.{Place}
-use Rattle.ckpt_policy.specs.Counting.{after_note, no_counts}
-use Rattle.ckpt_policy.specs.Ledger.{Account, StandsFor}
+use Rattle.ckpt_policy.specs.Counting.{after_note, no_counts, IsFull}
+use Rattle.ckpt_policy.specs.Ledger.{Account, IsNewOrFull, MayRefuse, MayRefuseAt, StandsFor}
 use Rattle.ckpt_policy.specs.Notes.{behind_last, counts_at, is_got, is_here, is_kept, is_sent, known, known_with, place_cmp, place_of, queue_of, with_place}
 
 folded : (f : Note → Bool) (n : Note) (k : ℕ) (ns : List Note) → fold (λ a x. a + cond (f x) 1 0) k (ns ++ n ∷ []) ≡ fold (λ a x. a + cond (f x) 1 0) k ns + cond (f n) 1 0
@@ -297,3 +298,23 @@ stands-on old new n p e sorted written ns h =
         turned o Less e h = ap is_eq e
         turned o Equal e h = absurd (cc)
         turned o Greater e h = ap is_eq e
+
+-- ---- why a note is refused
+
+-- its count is full: that of a queue that is known
+pub full-refuses : (account : Account) (n : Note) (p : Place) → place_of (queue_of n) ≡ Some p
+    → IsFull (unwrap_or (lookup (is_at (place_cmp p)) account.counts) no_counts) n → MayRefuse account n
+full-refuses account n p e full = subst (MayRefuseAt account n) (sym e) (on (lookup (is_at (place_cmp p)) account.counts) full)
+  where
+    on : (o : Option Counts) → IsFull (unwrap_or o no_counts) n → IsNewOrFull o n
+    on None full = tt
+    on (Some c) full = full
+
+-- its queue is new
+pub new-refuses : (account : Account) (n : Note) (p : Place) → place_of (queue_of n) ≡ Some p → lookup (is_at (place_cmp p)) account.counts ≡ None → MayRefuse account n
+new-refuses account n p e none = subst (MayRefuseAt account n) (sym e) (subst (λ (o : Option Counts). IsNewOrFull o n) (sym none) tt)
+
+-- what holds holds on an Err
+pub on-err : {A E P : Type 0} (r : Result A E) → P → OnErr r P
+on-err (Ok x) p = tt
+on-err (Err e) p = p

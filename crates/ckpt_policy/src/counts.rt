@@ -1,7 +1,7 @@
 //! What the notes say of one queue.
 
-ghost use Rattle.std.specs.Prelude.{◌≡◌, ◌+◌, IfSome, MatchOption};
-ghost use Rattle.ckpt_policy.specs.Counting.{after_note, no_counts};
+ghost use Rattle.std.specs.Prelude.{◌≡◌, ◌+◌, IfSome, IfNone, MatchOption};
+ghost use Rattle.ckpt_policy.specs.Counting.{after_note, no_counts, IsFull};
 
 use crate::note::Note;
 
@@ -28,9 +28,10 @@ impl Counts {
         }
     }
 
-    /// With one note of the queue more; `None` where a count passes the greatest u64.
+    /// With one note of the queue more; `None` where its count would pass the greatest u64.
     pub fn after(self, note: Note) -> Option<Counts>
-        ensures { IfSome result (λ c. c ≡ after_note self note) }
+        ensures some { IfSome result (λ c. c ≡ after_note self note) }
+        ensures full { IfNone result (IsFull self note) }
     {
         match note {
             Note::Sent(_) => Some(Counts {

@@ -3,7 +3,7 @@
 ghost use Rattle.std.specs.Prelude.{◌≡◌, ◌↔◌, ◌≤◌, true, All, [], ◌∷◌, ◌++◌, if◌then◌else◌, map, take, List, IfErr, IfOk, IsOk, OnErr, OnOk};
 ghost use Rattle.ckpt_policy.specs.declared.note.Note.{Note as Noted};
 ghost use Rattle.ckpt_policy.specs.Due.{due};
-ghost use Rattle.ckpt_policy.specs.Ledger.{Account, IsNumber, StandsFor, StaysShort};
+ghost use Rattle.ckpt_policy.specs.Ledger.{Account, IsNumber, MayRefuse, StandsFor, StaysShort};
 ghost use Rattle.ckpt_policy.specs.Notes.{queue_at, IsPending};
 ghost use Rattle.ckpt_policy.specs.Picking.{picks, picked_from, ranked_from, ranks_from};
 
@@ -87,7 +87,8 @@ impl Ledger {
         })
     }
 
-    /// One note more. Refused for memory alone, or where a count would pass the greatest u64, and then nothing changes.
+    /// One note more. Refused where its queue is new and memory runs out, or where its count would pass the greatest u64, and then nothing
+    /// changes.
     ///
     /// A note of an ATOMIC queue says nothing.
     pub fn note(&mut self, note: Note) -> Result<(), Refused>
@@ -95,6 +96,8 @@ impl Ledger {
         ensures rule { (self.new.role ≡ self.old.role) × (self.new.k ≡ self.old.k) × (self.new.client ≡ self.old.client) }
         ensures err { OnErr result (self.new ≡ self.old) }
         ensures memory { IfErr result (λ e. e ≡ Refused.Memory) }
+        // A queue that is known is refused where its count is full alone.
+        ensures cause { OnErr result (MayRefuse self.old note) }
     {
         let Some(place) = Place::of(note.queue()) else {
             return Ok(());

@@ -22,3 +22,4 @@ pub mod Leases
 pub mod Sifting
 pub mod Sweeping
 pub mod Within
+pub mod Ample

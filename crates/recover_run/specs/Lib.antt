@@ -16,3 +16,4 @@ pub mod Leases
 pub mod Stepped
 pub mod Calm
 pub mod Within
+pub mod Ample

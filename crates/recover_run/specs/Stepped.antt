@@ -14,6 +14,7 @@ use Rattle.cloud_trait.specs.Calm.{AreCalm, AreAlone}
 use Rattle.recover_run.specs.declared.stage.Aim.{Aim}
 use Rattle.recover_run.specs.declared.stage.RecoverAnswer.{RecoverAnswer}
 use Rattle.recover_run.specs.declared.stage.RecoverAnswer.TheVariants.{Nothing}
+use Rattle.recover_run.specs.Ample.{IsAmple}
 use Rattle.recover_run.specs.Causes.{Shows, Tells, Keeps, AnswersKept, IsAbsent}
 use Rattle.recover_run.specs.Emptying.{IsBeginning, HadMemory, LeavesNone, deed_of}
 use Rattle.recover_run.specs.Meaning.{MeansTurn, HandsNone}
@@ -54,10 +55,11 @@ pub record Means (course : Course) (d : Deed) (old new : Recovery) (turn : Turn 
   pub empties : HadMemory course.calls → AreCalm (d ∷ course.calls) → AreAlone (d ∷ course.calls)
       → (first : CloudState) → IsBeginning (d ∷ course.calls) first → LeavesNone course.client first d.after turn
 
--- The code made the call in hand and took the step that its answer leads to. Where the answer is want of memory, it stops for it. Whichever calls
--- the recovery came by, the answer came to this behind them.
+-- The code made the call in hand and took the step that its answer leads to. Where the answer is want of memory, it stops for it; where the call
+-- was refused, it does not (`ample`). Whichever calls the recovery came by, the answer came to this behind them.
 pub record Stepped (who : Caller) (before after : Seen) (old new : Recovery) (turn : Turn RecoverAnswer) : Type 0 where
   pub did : Steps recovery_machine (occasion_of who before after) old new turn
   pub memory : did.answer ≡ call.Memory → turn ≡ Stopped trouble.Memory
+  pub ample : IsAmple did.answer old new turn
   pub means : (client : ℕ) (aim : Aim) (former : Option Claim) (h : List Deed) → Went client aim former h old
       → Means (course_of client aim former h) (deed_of who old did.answer before after) old new turn

@@ -1,4 +1,4 @@
-ghost use Rattle.std.specs.Prelude.{◌≡◌, ◌≤◌, ◌<◌, ◌+◌, ◌^◌, Ok, None, IfSome, IfNone, length, slice_get};
+ghost use Rattle.std.specs.Prelude.{◌≡◌, ◌≢◌, ◌≤◌, ◌<◌, ◌+◌, ◌^◌, Ok, Err, Some, None, IfSome, IfNone, IfOk, IfErr, length, slice_get};
 ghost use Rattle.std.specs.List.{AllByRecursion};
 ghost use Rattle.head_codec.specs.declared.lists.Pending.{Pending};
 ghost use Rattle.head_codec.specs.Counters.{AreCounters};
@@ -124,6 +124,7 @@ impl RecoverRun {
     ghost use Rattle.recover_run.specs.End.{calls_left, KnowsAtMost};
     ghost use Rattle.recover_run.specs.Within.{AreFew};
     ghost use Rattle.recover_run.specs.Leases.{Behind, leases_of, outstanding, Names, GivesBack};
+    ghost use Rattle.recover_run.specs.Ample.{IsRefusal, NeedsNone};
     ghost use Rattle.recover_run.specs.Stepped.{Stepped};
     ghost use Rattle.recover_run.specs.Items.{items_of};
 
@@ -256,7 +257,8 @@ impl RecoverRun {
 
     /// Gives the lease back next, and then ends or stops so.
     fn releasing(&mut self, ending: Result<RecoverAnswer, Trouble>) -> Turn<RecoverAnswer>
-        ensures { TurnsBy (λ r n. releasing r ending ≡ n) self.old self.new result }
+        ensures took { TurnsBy (λ r n. releasing r ending ≡ n) self.old self.new result }
+        ensures more { result ≡ Turn.More }
     {
         self.stage = Stage::Releasing;
         self.ending = Some(ending);
@@ -264,13 +266,15 @@ impl RecoverRun {
     }
 
     fn stop(&mut self, trouble: Trouble) -> Turn<RecoverAnswer>
-        ensures { TurnsBy (λ r n. stopping r trouble ≡ n) self.old self.new result }
+        ensures took { TurnsBy (λ r n. stopping r trouble ≡ n) self.old self.new result }
+        ensures more { result ≡ Turn.More }
     {
         self.releasing(Err(trouble))
     }
 
     fn old_released(&mut self) -> Turn<RecoverAnswer>
-        ensures { TurnsBy (λ r n. old_released r ≡ n) self.old self.new result }
+        ensures took { TurnsBy (λ r n. old_released r ≡ n) self.old self.new result }
+        ensures more { result ≡ Turn.More }
     {
         self.stage = Stage::Taking;
         self.former = None;
@@ -278,7 +282,9 @@ impl RecoverRun {
     }
 
     fn taken(&mut self, given: Result<Lease, Trouble>) -> Turn<RecoverAnswer>
-        ensures { TurnsBy (λ r n. taken_by r given ≡ n) self.old self.new result }
+        ensures took { TurnsBy (λ r n. taken_by r given ≡ n) self.old self.new result }
+        ensures refused { IfErr given (λ t. result ≡ Turn.Stopped t) }
+        ensures given { IfOk given (λ _. result ≡ Turn.More) }
     {
         match given {
             Ok(lease) => {
@@ -292,7 +298,8 @@ impl RecoverRun {
 
     fn released(&mut self) -> Turn<RecoverAnswer>
         requires { self.old.stage ≡ Stage.Releasing }
-        ensures { Took (λ r _ n. released r ≡ n) KeepsLeases self.old Answer.Failed self.new result }
+        ensures took { Took (λ r _ n. released r ≡ n) KeepsLeases self.old Answer.Failed self.new result }
+        ensures kept { result ≡ Turn.Stopped Trouble.Memory → self.old.ending ≡ Some (Err Trouble.Memory) }
     {
         self.stage = Stage::Finished;
         self.lease = None;
@@ -306,7 +313,8 @@ impl RecoverRun {
     // ---- the head
 
     fn got(&mut self, alloc: Global, got: Result<Option<Blob>, Trouble>) -> Turn<RecoverAnswer>
-        ensures { TurnsBy (λ r n. got_by r got ≡ n) self.old self.new result }
+        ensures took { TurnsBy (λ r n. got_by r got ≡ n) self.old self.new result }
+        ensures refused { IfErr got (λ _. result ≡ Turn.More) }
     {
         match got {
             Ok(None) => self.got_none(alloc),
@@ -387,9 +395,12 @@ impl RecoverRun {
     // ---- the records of an open head
 
     #[inline(never)]
+    #[tactic(auto, using(crate::proofs::Ample::refused_received))]
     fn received(&mut self, alloc: Global, answer: Answer) -> Turn<RecoverAnswer>
         requires { HasSpelling self.old.head }
-        ensures { TurnsBy (λ r n. received_by r (received_of answer) ≡ n) self.old self.new result }
+        ensures took { TurnsBy (λ r n. received_by r (received_of answer) ≡ n) self.old self.new result }
+        // What was refused is kept, and the lease is given back first.
+        ensures refused { IsRefusal answer → result ≡ Turn.More }
     {
         match answer.received() {
             Ok(messages) => self.gather(alloc, messages.as_slice()),
@@ -436,9 +447,11 @@ impl RecoverRun {
     }
 
     #[inline(never)]
+    #[tactic(auto, using(crate::proofs::Ample::refused_done))]
     fn deleted(&mut self, alloc: Global, answer: Answer) -> Turn<RecoverAnswer>
         requires { HasSpelling self.old.head }
-        ensures { TurnsBy (λ r n. deleted_by r (done_of answer) ≡ n) self.old self.new result }
+        ensures took { TurnsBy (λ r n. deleted_by r (done_of answer) ≡ n) self.old self.new result }
+        ensures refused { IsRefusal answer → result ≡ Turn.More }
     {
         match answer.done() {
             Ok(()) => {
@@ -489,9 +502,11 @@ impl RecoverRun {
     }
 
     #[inline(never)]
+    #[tactic(auto, using(crate::proofs::Ample::refused_sent))]
     fn sent(&mut self, alloc: Global, answer: Answer) -> Turn<RecoverAnswer>
         requires { self.old.stage ≡ Stage.Sending }
-        ensures { TurnsBy (λ r n. sent_by r (sent_of answer) ≡ n) self.old self.new result }
+        ensures took { TurnsBy (λ r n. sent_by r (sent_of answer) ≡ n) self.old self.new result }
+        ensures refused { IsRefusal answer → result ≡ Turn.More }
     {
         match answer.sent() {
             Ok(_) => self.pass_record(alloc),
@@ -519,9 +534,11 @@ impl RecoverRun {
     // ---- behind the put
 
     #[inline(never)]
+    #[tactic(auto, using(crate::proofs::Ample::refused_done))]
     fn put(&mut self, alloc: Global, answer: Answer) -> Turn<RecoverAnswer>
         requires { HasSpelling self.old.head }
-        ensures { TurnsBy (λ r n. put_by r (done_of answer) ≡ n) self.old self.new result }
+        ensures took { TurnsBy (λ r n. put_by r (done_of answer) ≡ n) self.old self.new result }
+        ensures refused { IsRefusal answer → result ≡ Turn.More }
     {
         match answer.done() {
             Ok(()) => self.clear_kept(alloc),
@@ -552,7 +569,8 @@ impl RecoverRun {
     /// Deletes the next message next, or receives again where there is none.
     fn clear_next(&mut self) -> Turn<RecoverAnswer>
         requires { HasSpelling self.old.head }
-        ensures { TurnsBy (λ r n. next_clearing r r.ids ≡ n) self.old self.new result }
+        ensures took { TurnsBy (λ r n. next_clearing r r.ids ≡ n) self.old self.new result }
+        ensures more { result ≡ Turn.More }
     {
         self.stage = if self.ids.is_empty() {
             Stage::Sweeping
@@ -564,7 +582,8 @@ impl RecoverRun {
 
     fn cleared(&mut self) -> Turn<RecoverAnswer>
         requires { HasSpelling self.old.head }
-        ensures { TurnsBy (λ r n. cleared r ≡ n) self.old self.new result }
+        ensures took { TurnsBy (λ r n. cleared r ≡ n) self.old self.new result }
+        ensures more { result ≡ Turn.More }
     {
         self.stage = Stage::Sweeping;
         let _ = self.ids.pop_front();
@@ -572,9 +591,11 @@ impl RecoverRun {
     }
 
     #[inline(never)]
+    #[tactic(auto, using(crate::proofs::Ample::refused_received))]
     fn swept(&mut self, alloc: Global, answer: Answer) -> Turn<RecoverAnswer>
         requires { HasSpelling self.old.head }
-        ensures { TurnsBy (λ r n. swept_by r (received_of answer) ≡ n) self.old self.new result }
+        ensures took { TurnsBy (λ r n. swept_by r (received_of answer) ≡ n) self.old self.new result }
+        ensures refused { IsRefusal answer → result ≡ Turn.More }
     {
         match answer.received() {
             Ok(messages) => self.sweep(alloc, messages.as_slice()),
@@ -647,6 +668,8 @@ impl RecoverRun {
         requires { KeepsLeases self.old answer self.old }
         ensures took { Took (LeadsBy recovery_next) KeepsLeases self.old answer self.new result }
         ensures memory { answer ≡ Answer.Memory → result ≡ Turn.Stopped Trouble.Memory }
+        ensures refused { IsRefusal answer → result ≡ Turn.Stopped Trouble.Memory → self.old.ending ≡ Some (Err Trouble.Memory) }
+        ensures spared { NeedsNone self.old.stage → answer ≢ Answer.Memory → result ≡ Turn.Stopped Trouble.Memory → self.old.ending ≡ Some (Err Trouble.Memory) }
     {
         if let Answer::Memory = answer {
             return Turn::Stopped(Trouble::Memory);

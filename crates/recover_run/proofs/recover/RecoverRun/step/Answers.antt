@@ -1,6 +1,7 @@
 use Rattle.std.proofs.Common.{◌^◌, refl, subst}
 use Rattle.recover_run.specs.Emptying.{deed_of}
 use Rattle.recover_run.specs.Recovery.{IsSound}
+use Rattle.recover_run.proofs.Ample.{handed_ample, handed_spared, took_ample}
 use Rattle.recover_run.proofs.End.{took_less}
 use Rattle.recover_run.proofs.Demands.{took_exact, took_nothing, took_answers}
 use Rattle.recover_run.proofs.Handing.{handed_keeps, took_handed}
@@ -26,6 +27,9 @@ returns-clause-steps g c =
     record {
       did = record { answer = answer; made = made; took = took };
       memory = c.absorb-turn.ensures.memory;
+      ample = took_ample old _ answer _ took
+      (handed_ample old _ answer _ c.call-answer.ensures.left c.absorb-turn.ensures.refused)
+      (handed_spared old _ answer _ c.call-answer.ensures.left c.absorb-turn.ensures.spared);
       means = λ client aim former h went.
           let known = came_known client aim former h old went in
           record {

@@ -7,3 +7,4 @@ pub mod Leases
 pub mod Stepped
 pub mod Sweeping
 pub mod Calm
+pub mod Ample

@@ -13,6 +13,7 @@ use Rattle.cloud_trait.specs.Seen.{Seen}
 use Rattle.ckpt_parts.specs.Leasing.{outstanding}
 use Rattle.orphan_sweep.specs.declared.swept.Swept.{Swept}
 use Rattle.orphan_sweep.specs.Sweeping.{Sweeping, sweep_ask, sweep_machine}
+use Rattle.orphan_sweep.specs.Ample.{IsAmple}
 use Rattle.orphan_sweep.specs.Leases.{Went, Stands, Names, AreReturned, AreFew}
 use Rattle.orphan_sweep.specs.Causes.{IsShown, Tells}
 use Rattle.orphan_sweep.specs.Demands.{Owes}
@@ -26,7 +27,8 @@ deed_of who old answer before after = record { who = who; ask = sweep_ask old; a
 -- What this answer came to behind these calls. The calls were those of the stage (`knows`): so nothing was removed before all levels were read and the
 -- pages listed, and a removal in hand is of the next listed page that was not come to (`removes`). The call names the tree's lease, which is held
 -- (`stands`, `names`), and few calls were made with it (`few`). Each trouble that is kept or answered was kept before or is shown by the answer
--- (`tells`), and each such trouble is kept or answered (`owes`). At an end all orphans are removed (`swept`), and before it the lease was given back by
+-- (`tells`), and each such trouble is kept or answered (`owes`); want of memory never takes the place of a refused call, nor of any once the pages are
+-- listed (`ample`). At an end all orphans are removed (`swept`), and before it the lease was given back by
 -- a call (`returned`). Where all calls were calm, a stop is for what the cloud holds or for want of memory (`well`).
 pub record Means (d : Deed) (h : List Deed) (old new : Sweeping) (turn : Turn Swept) : Type 0 where
   pub knows : Knows old (calls_of h)
@@ -36,6 +38,7 @@ pub record Means (d : Deed) (h : List Deed) (old new : Sweeping) (turn : Turn Sw
   pub few : AreFew old (1 + length h)
   pub tells : Tells old d.answer new turn
   pub owes : (t : Trouble) → t ≢ trouble.Memory → IsShown old d.answer t → Owes new turn t
+  pub ample : IsAmple d.answer old new turn
   pub swept : MeansSwept old (calls_of h) turn
   pub returned : AreReturned (outstanding (d ∷ h)) turn
   pub well : AreCalm (d ∷ h) → IsWell turn

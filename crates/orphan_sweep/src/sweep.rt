@@ -1,6 +1,6 @@
 //! The machine.
 
-ghost use Rattle.std.specs.Prelude.{◌≡◌, ◌<◌, ◌≤◌, ◌^◌, List, length, Result, Ok, Some, IfSome, IfNone};
+ghost use Rattle.std.specs.Prelude.{◌≡◌, ◌≢◌, ◌<◌, ◌≤◌, ◌^◌, List, length, Result, Ok, Some, IfSome, IfNone, IfErr};
 ghost use Rattle.db_base.specs.declared.trouble.Trouble.{Trouble};
 ghost use Rattle.cloud_trait.specs.Ask.{Release};
 ghost use Rattle.cloud_trait.specs.Call.{ask_of, Lends};
@@ -87,6 +87,7 @@ impl Model for Sweep {
 
 impl Sweep {
     ghost use Rattle.orphan_sweep.specs.End.{calls_left};
+    ghost use Rattle.orphan_sweep.specs.Ample.{IsRefusal, WantsMemory};
     ghost use Rattle.orphan_sweep.specs.Leases.{Went, GivesBack};
     ghost use Rattle.orphan_sweep.specs.Stepped.{Stepped};
     ghost use Rattle.orphan_sweep.specs.Sweeping.{new_sweeping, is_among, sweep_ask, take_tree, remove_next, next_orphan, handed, stopping, taken_by, to_page, goes_on, root_got, page_found, page_got, listed_by, removes, removed_by, finished_by, absorbed, SameLease, TurnsBy};
@@ -175,7 +176,8 @@ impl Sweep {
     // ---- where an answer leads
 
     fn stop(&mut self, trouble: Trouble) -> Turn<Swept>
-        ensures { TurnsBy (λ s next. stopping s trouble ≡ next) self.old self.new result }
+        ensures took { TurnsBy (λ s next. stopping s trouble ≡ next) self.old self.new result }
+        ensures more { result ≡ Turn.More }
     {
         self.stage = Stage::Releasing;
         self.trouble = Some(trouble);
@@ -183,7 +185,8 @@ impl Sweep {
     }
 
     fn taken(&mut self, given: Result<Lease, Trouble>) -> Turn<Swept>
-        ensures { TurnsBy (λ s next. taken_by s given ≡ next) self.old self.new result }
+        ensures took { TurnsBy (λ s next. taken_by s given ≡ next) self.old self.new result }
+        ensures refused { IfErr given (λ t. result ≡ Turn.Stopped t) }
     {
         match given {
             Ok(lease) => {
@@ -228,7 +231,8 @@ impl Sweep {
     }
 
     fn root_got(&mut self, alloc: Global, got: Result<Option<Blob>, Trouble>) -> Turn<Swept>
-        ensures { TurnsBy (λ s next. root_got s got ≡ next) self.old self.new result }
+        ensures took { TurnsBy (λ s next. root_got s got ≡ next) self.old self.new result }
+        ensures refused { IfErr got (λ _. result ≡ Turn.More) }
     {
         match got {
             Ok(got) => self.read_root(alloc, &got),
@@ -246,7 +250,8 @@ impl Sweep {
     }
 
     fn page_got(&mut self, alloc: Global, got: Result<Option<Blob>, Trouble>) -> Turn<Swept>
-        ensures { TurnsBy (λ s next. page_got s got ≡ next) self.old self.new result }
+        ensures took { TurnsBy (λ s next. page_got s got ≡ next) self.old self.new result }
+        ensures refused { IfErr got (λ _. result ≡ Turn.More) }
     {
         match got {
             Ok(got) => {
@@ -272,7 +277,8 @@ impl Sweep {
     }
 
     fn listed(&mut self, alloc: Global, listed: Result<PageList, Trouble>) -> Turn<Swept>
-        ensures { TurnsBy (λ s next. listed_by s listed ≡ next) self.old self.new result }
+        ensures took { TurnsBy (λ s next. listed_by s listed ≡ next) self.old self.new result }
+        ensures refused { IfErr listed (λ _. result ≡ Turn.More) }
     {
         match listed {
             Ok(listed) => self.note_list(alloc, listed.as_slice()),
@@ -295,7 +301,8 @@ impl Sweep {
 
     /// The next orphan is removed next, or the lease is given back where none is left.
     fn remove_next(&mut self) -> Turn<Swept>
-        ensures { TurnsBy (λ s next. removes s ≡ next) self.old self.new result }
+        ensures took { TurnsBy (λ s next. removes s ≡ next) self.old self.new result }
+        ensures more { result ≡ Turn.More }
     {
         match self.next_orphan() {
             Some(_) => {
@@ -310,14 +317,18 @@ impl Sweep {
     }
 
     fn removed(&mut self, done: Result<(), Trouble>) -> Turn<Swept>
-        ensures { TurnsBy (λ s next. removed_by s done ≡ next) self.old self.new result }
+        ensures took { TurnsBy (λ s next. removed_by s done ≡ next) self.old self.new result }
+        ensures refused { IfErr done (λ _. result ≡ Turn.More) }
+        // Where an orphan is left no memory is taken.
+        ensures listed { result ≡ Turn.Stopped Trouble.Memory → length self.old.orphans ≤ self.old.removed }
     {
         match done {
             Ok(()) => {
-                let Some(removed) = self.removed.checked_add(1) else {
+                let all = self.orphans.len();
+                if self.removed >= all {
                     return Turn::Stopped(Trouble::Memory);
-                };
-                self.removed = removed;
+                }
+                self.removed += 1;
                 self.remove_next()
             }
             Err(trouble) => self.stop(trouble),
@@ -325,7 +336,8 @@ impl Sweep {
     }
 
     fn finish(&mut self) -> Turn<Swept>
-        ensures { TurnsBy (λ s next. finished_by s s.trouble ≡ next) self.old self.new result }
+        ensures took { TurnsBy (λ s next. finished_by s s.trouble ≡ next) self.old self.new result }
+        ensures kept { result ≡ Turn.Stopped Trouble.Memory → self.old.trouble ≡ Some Trouble.Memory }
     {
         self.stage = Stage::Finished;
         match self.trouble.take() {
@@ -341,6 +353,8 @@ impl Sweep {
     fn absorb(&mut self, alloc: Global, answer: Answer) -> Turn<Swept>
         ensures took { Took (λ s a next. absorbed s a ≡ next) SameLease self.old answer self.new result }
         ensures memory { answer ≡ Answer.Memory → result ≡ Turn.Stopped Trouble.Memory }
+        ensures refused { IsRefusal answer → result ≡ Turn.Stopped Trouble.Memory → self.old.trouble ≡ Some Trouble.Memory }
+        ensures listed { answer ≢ Answer.Memory → result ≡ Turn.Stopped Trouble.Memory → WantsMemory self.old.stage self.old }
     {
         match (self.stage, answer) {
             (_, Answer::Memory) => Turn::Stopped(Trouble::Memory),

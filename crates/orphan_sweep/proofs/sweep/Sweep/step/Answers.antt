@@ -1,5 +1,6 @@
 use Rattle.cloud_trait.proofs.CalmLemmas.{goes_well}
 use Rattle.cloud_trait.specs.Machine.{calls_of}
+use Rattle.orphan_sweep.proofs.Ample.{handed_refused, handed_wants, took_ample}
 use Rattle.orphan_sweep.proofs.Calm.{went_quiet, tells_well}
 use Rattle.orphan_sweep.proofs.Causes.{took_tells}
 use Rattle.orphan_sweep.proofs.Demands.{took_owes}
@@ -29,6 +30,9 @@ returns-clause-steps g c =
             names = stands_names old h stands;
             few = stands_few old h stands;
             tells = tells;
+            ample = took_ample old _ answer _ stands.own took
+                (handed_refused old _ answer _ c.call-answer.ensures.left c.absorb-turn.ensures.refused)
+                (handed_wants old _ answer _ c.call-answer.ensures.left c.absorb-turn.ensures.listed);
             owes = λ t other shown. took_owes old _ answer _ t stands.own (went_quiet old h went) fits took other shown;
             swept = took_swept old _ (calls_of h) answer _ knows took;
             returned = took_returns old _ h answer _ stands fits took;

@@ -11,16 +11,17 @@ use Rattle.byte_format.specs.Order.{bytes_same}
 use Rattle.byte_format.specs.Whole.{offset}
 use Rattle.leaf_view.specs.Leaf.{Leaf, leaf}
 use Rattle.leaf_view.specs.Lookup.{empty_leaf}
+use Rattle.run_cursor.specs.Run.{Taken, IsRun}
 use Rattle.cloud_trait.specs.declared.answer.Answer.TheVariants as call
 use Rattle.cloud_trait.specs.Ask.{GetHeld, PutHeld, Receive, Take}
-use Rattle.ckpt_parts.specs.Intakes.{items_of, message_damage, TakesItems}
+use Rattle.ckpt_parts.specs.Intakes.{items_of, intake_of, message_damage, TakesItems}
 use Rattle.ckpt_parts.specs.Leaves.{page_damage, absent_leaf, HoldsLeaf, bad_fence, fenced}
 use Rattle.page_ckpt.specs.declared.stage.Stage.TheVariants.{GettingHome, Receiving, GettingRight, Releasing}
 use Rattle.page_ckpt.specs.Paging.{Paging, Step, paging_ask, own_queue, home_name, right_name, HoldsNamed, is_visited, PagingLeads, KeepsLeases}
 use Rattle.page_ckpt.specs.Leases.{HoldsAt, Stands}
-use Rattle.page_ckpt.specs.Causes.{Matters, Shows, IsShown, Tells, LeadsOn}
+use Rattle.page_ckpt.specs.Causes.{Matters, Shows, IsShown, Tells, IsOwnRun, LeadsOn}
 use Rattle.page_ckpt.proofs.Words.{Trouble, PuItem, Answer, Message, CkptAnswer, Turn, More, Ended, Stopped, Claim, Goes, Ends, Stops, Took, Deed, given_of, got_of, received_of, done_of, Fits, Intake, Link}
-use Rattle.page_ckpt.proofs.Outcomes.{leased, noted, Onward, Clears, Fails, Comes, comes}
+use Rattle.page_ckpt.proofs.Outcomes.{leased, AreRead, Onward, Clears, Fails, Comes, comes}
 use Rattle.page_ckpt.proofs.Outcomes as step
 use Rattle.page_ckpt.proofs.Links.{link_taken}
 
@@ -128,12 +129,22 @@ items_read : (q : QueueName) (cursor : List (ℕ × ℕ)) (read : Result (List P
 items_read q cursor (Ok items) i takes = (items, refl)
 items_read q cursor (Err m) i takes = absurd (cc (takes))
 
+-- .. and it is one of these records
+run_read : (p : Paging) (ms : List Message) (i : Intake) (read : AreRead p ms (Ok i)) (items : List PuItem) → items_of ms ≡ Ok items
+    → IsRun read.cursor items i.run.items i.run.top
+run_read p ms i read items reads =
+    let taken : TakesItems (own_queue p) read.cursor (Ok items) (Ok i) =
+    subst (λ (o : Result (List PuItem) Message). TakesItems (own_queue p) read.cursor o (Ok i)) reads read.takes in
+    let is : i ≡ intake_of items taken.0 = cc (taken.2) in
+    subst (λ (run : Taken). IsRun read.cursor items run.items run.top) (sym (ap (λ (x : Intake). x.run) is)) taken.1
+
 -- ---- local work
 
 pub onward_leads : {p q : Paging} {a : Answer} {o : Option Link} → Onward p a q o → LeadsOn p a q o
 onward_leads (step.with_run p first second ms i read some) =
     let records : (items : List PuItem) × (items_of ms ≡ Ok items) = items_read (own_queue p) read.cursor (items_of ms) i read.takes in
-    inl (refl, (ms, (records.0, refl, records.1, some)), link_taken p.home i.run.items)
+    let run : IsOwnRun p records.0 i.run = (read.cursor, read.own, run_read p ms i read records.0 records.1) in
+    inl (refl, (ms, (records.0, refl, records.1, some, run)), link_taken p.home i.run.items)
 onward_leads (step.from_right p first second a) = inr (refl, refl)
 
 -- it came to the same pages, and the page is as it was

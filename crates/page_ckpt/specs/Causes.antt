@@ -1,5 +1,6 @@
 -- Why a page checkpoint stops: each trouble is shown by the answer of the step that brings it.
 use Rattle.std.specs.Prelude.{ℕ, ◌≡◌, ◌≢◌, true, false, List, Option, Some, None, Ok, Err, ◌⊎◌}
+use Rattle.db_base.specs.Cursor.{number_of}
 use Rattle.db_base.specs.Limits.{page_ticks}
 use Rattle.db_base.specs.declared.names.Place.{Place}
 use Rattle.db_base.specs.declared.names.Place.TheVariants as place
@@ -10,10 +11,12 @@ use Rattle.db_base.specs.declared.trouble.Counter.TheVariants as counter
 use Rattle.byte_format.specs.Order.{bytes_same}
 use Rattle.byte_format.specs.Whole.{offset}
 use Rattle.leaf_view.specs.Leaf.{Leaf, leaf}
+use Rattle.leaf_view.specs.Lookup.{AreNumbers}
 use Rattle.node_codec.specs.Inner.{Inner, IsInner}
 use Rattle.leaf_edit.specs.Lacked.{lacked}
 use Rattle.log_codec.specs.declared.record.PuItem.{PuItem}
 use Rattle.log_codec.specs.Pu.{pu_offset}
+use Rattle.run_cursor.specs.Run.{Taken, IsRun}
 use Rattle.cloud_trait.specs.declared.answer.Answer.{Answer}
 use Rattle.cloud_trait.specs.declared.answer.Answer.TheVariants as call
 use Rattle.cloud_trait.specs.declared.message.Message.{Message}
@@ -57,14 +60,20 @@ BreaksFence p a page expected found =
     (p.stage ≡ GettingRight) × (page ≡ p.at.page) × (expected ≡ p.at.low) × (bytes_same expected found ≡ false)
     × ((got : Option (List ℕ)) × ((l : Leaf) × (a ≡ call.Got got) × HoldsLeaf p.tree page got (Ok l) × (found ≡ l.low)))
 
--- a receive brought records, and a run of them was taken that has items
-abbrev pub BringsRun : Answer → List PuItem → Type 0
-BringsRun a run = (ms : List Message) × ((items : List PuItem) × (a ≡ call.Received ms) × (items_of ms ≡ Ok items) × (has_items run ≡ true))
+-- this is a run of the items behind the page's own numbers of its queue
+abbrev pub IsOwnRun : Paging → List PuItem → Taken → Type 0
+IsOwnRun p items run =
+    (cursor : List (ℕ × ℕ)) × AreNumbers p.home.done p.page (number_of cursor) × IsRun cursor items run.items run.top
+
+-- a receive brought records, and this is a run of them, which has items
+abbrev pub BringsRun : Paging → Answer → Taken → Type 0
+BringsRun p a run =
+    (ms : List Message) × ((items : List PuItem) × (a ≡ call.Received ms) × (items_of ms ≡ Ok items) × (has_items run.items ≡ true) × IsOwnRun p items run)
 
 -- this link leads on, or none does: from the page as it was read, once a run was taken, or from a right page that is given back
 abbrev pub LeadsOn : Paging → Answer → Paging → Option Link → Type 0
 LeadsOn p a n link =
-    ((p.stage ≡ Receiving) × BringsRun a n.run.items × TakesLink p.home n.run.items link) ⊎ ((p.stage ≡ ReleasingRight) × (link ≡ p.onward))
+    ((p.stage ≡ Receiving) × BringsRun p a n.run × TakesLink p.home n.run.items link) ⊎ ((p.stage ≡ ReleasingRight) × (link ≡ p.onward))
 
 -- a link leads on to a page that was come to before
 abbrev pub GoesRound : Paging → Answer → Paging → ℕ → Type 0

@@ -8,3 +8,4 @@ pub mod Meaning
 pub mod Causes
 pub mod Calm
 pub mod Demands
+pub mod Ample

@@ -7,3 +7,4 @@ pub mod Causes
 pub mod Demands
 pub mod Calm
 pub mod Stepped
+pub mod Ample

@@ -14,6 +14,7 @@ use Rattle.cloud_trait.specs.Calm.{AreCalm}
 use Rattle.cloud_trait.specs.Plenty.{HadMemory}
 use Rattle.ckpt_parts.specs.Leasing.{outstanding}
 use Rattle.page_ckpt.specs.Paging.{Paging, paging_ask, paging_machine}
+use Rattle.page_ckpt.specs.Ample.{IsAmple}
 use Rattle.page_ckpt.specs.Leases.{Went, AreReturned}
 use Rattle.page_ckpt.specs.Meaning.{MeansDone}
 use Rattle.page_ckpt.specs.Causes.{IsShown, Tells}
@@ -37,9 +38,10 @@ pub record Means (d : Deed) (h : List Deed) (old new : Paging) (turn : Turn Ckpt
   pub returned : AreReturned (outstanding (d ∷ h)) turn
   pub well : AreCalm (d ∷ h) → HadMemory h → IsWell new turn
 
--- The code made the call in hand and took a step that its answer leads to. Where the answer is want of memory, it stops for it. Whichever calls the
--- checkpoint came by, the answer came to this behind them.
+-- The code made the call in hand and took a step that its answer leads to. Where the answer is want of memory, it stops for it; where it
+-- is a refusal, it does not (`ample`). Whichever calls the checkpoint came by, the answer came to this behind them.
 pub record Stepped (who : Caller) (before after : Seen) (old new : Paging) (turn : Turn CkptAnswer) : Type 0 where
   pub did : Steps paging_machine (occasion_of who before after) old new turn
   pub memory : did.answer ≡ call.Memory → turn ≡ Stopped trouble.Memory
+  pub ample : IsAmple did.answer old turn
   pub means : (h : List Deed) → Went h old → Means (deed_of who old did.answer before after) h old new turn

@@ -1,6 +1,6 @@
 //! The machine.
 
-ghost use Rattle.std.specs.Prelude.{◌≡◌, ◌<◌, ◌≤◌, ◌+◌, ◌^◌, ◌==◌, List, length, IfSome, IfNone, IfOk};
+ghost use Rattle.std.specs.Prelude.{◌≡◌, ◌≢◌, ◌<◌, ◌≤◌, ◌+◌, ◌^◌, ◌==◌, List, length, Some, IfSome, IfNone, IfOk, IfErr};
 ghost use Rattle.std.specs.List.{list_any};
 ghost use Rattle.cloud_trait.specs.Ask.{Release};
 ghost use Rattle.cloud_trait.specs.Call.{ask_of, Lends};
@@ -109,6 +109,7 @@ impl PageCkpt {
     ghost use Rattle.ckpt_parts.specs.Deleting.{next_id};
     ghost use Rattle.ckpt_parts.specs.Intakes.{has_items};
     ghost use Rattle.ckpt_parts.specs.Leasing.{newest_lease, claims_of, outstanding};
+    ghost use Rattle.page_ckpt.specs.Ample.{IsCountFull, IsRefusal, WantsMemory, WantsMore};
     ghost use Rattle.page_ckpt.specs.Stepped.{Stepped};
     ghost use Rattle.page_ckpt.specs.Leases.{Went, Names, GivesBack, AreFew};
     ghost use Rattle.leaf_view.specs.Lookup.{page_at};
@@ -282,7 +283,8 @@ impl PageCkpt {
     }
 
     fn stop(&mut self, trouble: Trouble) -> Turn<CkptAnswer>
-        ensures { TurnsBy (λ p next. next ≡ stopping p trouble) self.old self.new result }
+        ensures took { TurnsBy (λ p next. next ≡ stopping p trouble) self.old self.new result }
+        ensures more { result ≡ Turn.More }
     {
         self.stage = Stage::Releasing;
         self.trouble = Some(trouble);
@@ -290,7 +292,9 @@ impl PageCkpt {
     }
 
     fn home_taken(&mut self, given: Result<Lease, Trouble>) -> Turn<CkptAnswer>
-        ensures { TurnsBy (λ p next. next ≡ home_taken_by p given) self.old self.new result }
+        ensures took { TurnsBy (λ p next. next ≡ home_taken_by p given) self.old self.new result }
+        ensures refused { IfErr given (λ t. result ≡ Turn.Stopped t) }
+        ensures given { IfOk given (λ _. result ≡ Turn.More) }
     {
         match given {
             Ok(lease) => {
@@ -306,7 +310,8 @@ impl PageCkpt {
     }
 
     fn home_got(&mut self, got: Result<Option<Blob>, Trouble>) -> Turn<CkptAnswer>
-        ensures { TurnsBy (λ p next. HomeGot p got next) self.old self.new result }
+        ensures took { TurnsBy (λ p next. HomeGot p got next) self.old self.new result }
+        ensures more { result ≡ Turn.More }
     {
         match got {
             Ok(got) => self.read_home(got),
@@ -315,7 +320,8 @@ impl PageCkpt {
     }
 
     fn read_home(&mut self, got: Option<Blob>) -> Turn<CkptAnswer>
-        ensures { TurnsBy (λ p next. HomeGot p (Ok got) next) self.old self.new result }
+        ensures took { TurnsBy (λ p next. HomeGot p (Ok got) next) self.old self.new result }
+        ensures more { result ≡ Turn.More }
     {
         match named_leaf(self.tree, self.page, got) {
             Ok(home) => {
@@ -332,7 +338,8 @@ impl PageCkpt {
         alloc: Global,
         received: Result<MessageList, Trouble>,
     ) -> Turn<CkptAnswer>
-        ensures { TurnsBy (λ p next. ReceivedBy p received next) self.old self.new result }
+        ensures took { TurnsBy (λ p next. ReceivedBy p received next) self.old self.new result }
+        ensures refused { IfErr received (λ _. result ≡ Turn.More) }
     {
         match received {
             Ok(messages) => self.note_messages(alloc, messages.as_slice()),
@@ -457,7 +464,8 @@ impl PageCkpt {
     }
 
     fn right_taken(&mut self, given: Result<Lease, Trouble>) -> Turn<CkptAnswer>
-        ensures { TurnsBy (λ p next. next ≡ right_taken_by p given) self.old self.new result }
+        ensures took { TurnsBy (λ p next. next ≡ right_taken_by p given) self.old self.new result }
+        ensures more { result ≡ Turn.More }
     {
         match given {
             Ok(lease) => {
@@ -470,7 +478,8 @@ impl PageCkpt {
     }
 
     fn right_got(&mut self, alloc: Global, got: Result<Option<Blob>, Trouble>) -> Turn<CkptAnswer>
-        ensures { TurnsBy (λ p next. RightGot p got next) self.old self.new result }
+        ensures took { TurnsBy (λ p next. RightGot p got next) self.old self.new result }
+        ensures refused { IfErr got (λ _. result ≡ Turn.More) }
     {
         match got {
             Ok(got) => self.read_right_bytes(alloc, held_bytes(&got)),
@@ -529,7 +538,9 @@ impl PageCkpt {
     }
 
     fn right_put(&mut self, alloc: Global, done: Result<(), Trouble>) -> Turn<CkptAnswer>
-        ensures { TurnsBy (λ p next. next ≡ right_put_by p done) self.old self.new result }
+        ensures took { TurnsBy (λ p next. next ≡ right_put_by p done) self.old self.new result }
+        ensures refused { IfErr done (λ _. result ≡ Turn.More) }
+        ensures full { result ≡ Turn.Stopped Trouble.Memory → IsCountFull self.old }
     {
         match done {
             Ok(()) => {
@@ -556,7 +567,9 @@ impl PageCkpt {
     }
 
     fn home_put(&mut self, alloc: Global, done: Result<(), Trouble>) -> Turn<CkptAnswer>
-        ensures { TurnsBy (λ p next. next ≡ home_put_by p done) self.old self.new result }
+        ensures took { TurnsBy (λ p next. next ≡ home_put_by p done) self.old self.new result }
+        ensures refused { IfErr done (λ _. result ≡ Turn.More) }
+        ensures full { result ≡ Turn.Stopped Trouble.Memory → IsCountFull self.old }
     {
         match done {
             Ok(()) => {
@@ -576,7 +589,8 @@ impl PageCkpt {
 
     /// Deletes the next message next, or gives the leases back where none is left.
     fn delete_next(&mut self) -> Turn<CkptAnswer>
-        ensures { TurnsBy (λ p next. next ≡ deleting p) self.old self.new result }
+        ensures took { TurnsBy (λ p next. next ≡ deleting p) self.old self.new result }
+        ensures more { result ≡ Turn.More }
     {
         match self.deletions.next() {
             Some(_) => {
@@ -591,7 +605,8 @@ impl PageCkpt {
     }
 
     fn deleted(&mut self, done: Result<(), Trouble>) -> Turn<CkptAnswer>
-        ensures { TurnsBy (λ p next. next ≡ deleted_by p done) self.old self.new result }
+        ensures took { TurnsBy (λ p next. next ≡ deleted_by p done) self.old self.new result }
+        ensures more { result ≡ Turn.More }
     {
         self.deletions.note(done.is_ok());
         self.delete_next()
@@ -599,7 +614,8 @@ impl PageCkpt {
 
     /// The next lease is given back next, or the checkpoint ends.
     fn released(&mut self) -> Turn<CkptAnswer>
-        ensures { TurnsBy (λ p next. next ≡ released_by p (newest_lease p.held)) self.old self.new result }
+        ensures took { TurnsBy (λ p next. next ≡ released_by p (newest_lease p.held)) self.old self.new result }
+        ensures kept { result ≡ Turn.Stopped Trouble.Memory → self.old.trouble ≡ Some Trouble.Memory }
     {
         match self.held.newest() {
             Some(_) => Turn::More,
@@ -608,7 +624,8 @@ impl PageCkpt {
     }
 
     fn finish(&mut self) -> Turn<CkptAnswer>
-        ensures { TurnsBy (λ p next. next ≡ finished_by p p.trouble) self.old self.new result }
+        ensures took { TurnsBy (λ p next. next ≡ finished_by p p.trouble) self.old self.new result }
+        ensures kept { result ≡ Turn.Stopped Trouble.Memory → self.old.trouble ≡ Some Trouble.Memory }
     {
         self.stage = Stage::Finished;
         match self.trouble.take() {
@@ -626,6 +643,8 @@ impl PageCkpt {
     fn absorb(&mut self, alloc: Global, answer: Answer) -> Turn<CkptAnswer>
         ensures took { Took Absorbs SameLeases self.old answer self.new result }
         ensures memory { answer ≡ Answer.Memory → result ≡ Turn.Stopped Trouble.Memory }
+        ensures refused { IsRefusal answer → result ≡ Turn.Stopped Trouble.Memory → WantsMore self.old.stage self.old }
+        ensures wants { answer ≢ Answer.Memory → result ≡ Turn.Stopped Trouble.Memory → WantsMemory self.old.stage self.old }
     {
         if let Answer::Memory = answer {
             return Turn::Stopped(Trouble::Memory);

@@ -19,5 +19,5 @@ returns-in-Err-Stops c =
     let found = subst (λ (r : Result Leaf Fault). UnlessMemory (HoldsLinked c.self.inside.tree c.self.inside.at.page c.as_slice.result.now (option_copied c.args.got)) r) e c.linked_leaf.ensures in
     let low = subst (λ (low : _). HoldsLinked c.self.inside.tree c.self.inside.at.page low (option_copied c.args.got) (Err c.in-Err-Stops.trouble)) c.as_slice.ensures found in
     let holds = subst (λ (p : Paging). HoldsLinked p.tree p.at.page p.at.low (option_copied c.args.got) (Err c.in-Err-Stops.trouble)) c.self.view_is low in
-    let stops = subst (λ (t : Trouble). Took (λ (q : Paging) (x : Answer) (next : Step). next ≡ stopping q t) SameLeases c.args.self.now Failed c.stop.new.self c.stop.result) c.in-Err-Stops.trouble-is c.stop.ensures in
+    let stops = subst (λ (t : Trouble). Took (λ (q : Paging) (x : Answer) (next : Step). next ≡ stopping q t) SameLeases c.args.self.now Failed c.stop.new.self c.stop.result) c.in-Err-Stops.trouble-is c.stop.ensures.took in
     right_stopped c.args.self.now c.stop.new.self Failed c.stop.result (option_copied c.args.got) c.in-Err-Stops.trouble holds stops

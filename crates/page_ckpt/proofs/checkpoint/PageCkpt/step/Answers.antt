@@ -1,3 +1,4 @@
+use Rattle.page_ckpt.proofs.Ample.{handed_ample}
 use Rattle.page_ckpt.proofs.Meaning.{went_knows, knows_done, knows_brought}
 use Rattle.page_ckpt.proofs.Causes.{took_tells}
 use Rattle.page_ckpt.proofs.End.{took_less}
@@ -17,6 +18,7 @@ returns-clause-steps g c =
     record {
       did = record { answer = answer; made = c.call-answer.ensures.made; took = took };
       memory = c.absorb-turn.ensures.memory;
+      ample = handed_ample old _ answer _ c.call-answer.ensures.left c.absorb-turn.ensures.refused c.absorb-turn.ensures.wants;
       means = λ h went.
           let stands = went_stands old h went in
           let knows = went_knows old h went in

@@ -1,5 +1,5 @@
 -- What is seen of a folder that stands for a cloud.
-use Rattle.std.specs.Prelude.{ℕ, None}
+use Rattle.std.specs.Prelude.{ℕ, ◌≡◌, None}
 use Rattle.cloud_trait.specs.declared.answer.Answer.{Answer}
 use Rattle.cloud_trait.specs.Ask.{Ask}
 use Rattle.cloud_trait.specs.Caller.{Caller}
@@ -13,6 +13,10 @@ counted faults dark = record { counts = record { faults = faults; withheld = 0; 
 
 abbrev pub seen_of : {R K : Type 0} → FolderCloud R K → Seen
 seen_of c = counted c.faults c.dark
+
+-- no call and no look has failed yet
+abbrev pub IsFresh : {R K : Type 0} → FolderCloud R K → Type 0
+IsFresh c = seen_of c ≡ counted 0 0
 
 -- whoever asked and whatever was asked, it was answered so
 abbrev pub AnswersAll : Answer → Seen → Seen → Type 0

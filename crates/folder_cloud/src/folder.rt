@@ -42,28 +42,47 @@ const ASIDE: &str = "aside";
 /// In the part of a queue: a number that no deleted message had a greater one than, but for those below one that is there.
 const LAST: &str = "last";
 
-/// A folder, by its path.
+/// A folder, by its path, and whether it was seen to be there or was made.
 #[derive(Drop)]
 pub(crate) struct Folder<R> {
     rt: R,
     dir: String,
+    is_there: bool,
 }
 
 impl<R: Files<File = File> + AllocGlobal + Drop> Folder<R> {
-    /// The folder at a path, which is made where there is none. An empty path names none: its parts would be the root's.
-    pub fn open(rt: R, dir: &str) -> Result<Folder<R>, FolderFault>
+    /// The folder at a path, which is made once it is needed. An empty path names none: its parts would be the root's.
+    pub fn at(rt: R, dir: &str) -> Result<Folder<R>, FolderFault>
         ensures named { OnOk result (1 ≤ length dir.now) }
     {
         if dir.is_empty() {
             return Err(FolderFault::Failed);
         }
         let dir = String::from_str(rt.alloc(), dir)?;
-        let folder = Folder { rt, dir };
-        let in_use = folder.path(IN_USE, "")?;
-        if look(&folder.rt, in_use.as_str())?.is_none() {
-            folder.make()?;
+        let is_there = false;
+        Ok(Folder { rt, dir, is_there })
+    }
+
+    /// Makes the folder and its parts, where there are none.
+    pub fn make_ready(&mut self) -> Result<(), FolderFault> {
+        let in_use = self.path(IN_USE, "")?;
+        if look(&self.rt, in_use.as_str())?.is_none() {
+            self.make()?;
         }
-        Ok(folder)
+        self.is_there = true;
+        Ok(())
+    }
+
+    /// Failed where no store is there: one has its objects' part. Nothing is made.
+    pub fn must_be_there(&mut self) -> Result<(), FolderFault> {
+        let objects = self.path(OBJECTS, "")?;
+        match look(&self.rt, objects.as_str())? {
+            Some(there) if there.is_dir() => {
+                self.is_there = true;
+                Ok(())
+            }
+            _ => Err(FolderFault::Failed),
+        }
     }
 
     // Makes the folder, those above it and its parts, and flushes their names.
@@ -97,7 +116,10 @@ impl<R: Files<File = File> + AllocGlobal + Drop> Folder<R> {
 
     /// Waits until no other process is at work here. What a process that was killed changed and did not flush is flushed first, so
     /// that nobody acts on what a power failure would take back.
-    pub fn hold(&self) -> Result<Held, FolderFault> {
+    pub fn hold(&mut self) -> Result<Held, FolderFault> {
+        if !self.is_there {
+            self.make_ready()?;
+        }
         let path = self.path(IN_USE, "")?;
         let held = Held::of(&self.rt, path.as_str())?;
         if let Some(part) = held.marked(self.rt.alloc())? {

@@ -1,7 +1,7 @@
-ghost use Rattle.std.specs.Prelude.{◌≤◌, ℕ, length, Err, OnOk};
+ghost use Rattle.std.specs.Prelude.{◌≤◌, ℕ, length, Err, IfOk, IsOk, OnOk};
 ghost use Rattle.cloud_trait.specs.Answers.{fault_answer, held_fault_answer};
 ghost use Rattle.cloud_trait.specs.Bench.{Looks};
-ghost use Rattle.folder_cloud.specs.Counting.{seen_of, AnswersAll, KeepsAllLeases};
+ghost use Rattle.folder_cloud.specs.Counting.{seen_of, AnswersAll, IsFresh, KeepsAllLeases};
 
 use crate::fault::{FolderFault, HeldStop};
 use crate::ticks::Ticks;
@@ -32,8 +32,36 @@ impl<R: Files<File = File> + AllocGlobal + Drop, K: Ticks + Drop> FolderCloud<R,
     /// The cloud in the folder at a path, which is made where there is none. Failed, for an empty path too, or Memory.
     pub fn open(rt: R, dir: &str, clock: K) -> Result<FolderCloud<R, K>, CloudFault>
         ensures named { OnOk result (1 ≤ length dir.now) }
+        ensures fresh { IfOk result IsFresh }
     {
-        match TimedFolder::open(rt, dir, clock) {
+        FolderCloud::over(TimedFolder::open(rt, dir, clock))
+    }
+
+    /// The cloud in the folder at a path that has a store. Nothing is made: Failed where there is none, or Memory.
+    pub fn open_standing(rt: R, dir: &str, clock: K) -> Result<FolderCloud<R, K>, CloudFault>
+        ensures named { OnOk result (1 ≤ length dir.now) }
+        ensures fresh { IfOk result IsFresh }
+    {
+        FolderCloud::over(TimedFolder::open_standing(rt, dir, clock))
+    }
+
+    /// The cloud in the folder at a path, which the first call or look makes where there is none, and answers for. Failed for an
+    /// empty path, or Memory.
+    pub fn open_at_first_call(rt: R, dir: &str, clock: K) -> Result<FolderCloud<R, K>, CloudFault>
+        ensures named { OnOk result (1 ≤ length dir.now) }
+        ensures fresh { IfOk result IsFresh }
+    {
+        FolderCloud::over(TimedFolder::open_at_first_call(rt, dir, clock))
+    }
+
+    // The cloud over what was opened.
+    fn over(
+        opened: Result<TimedFolder<R, K>, FolderFault>,
+    ) -> Result<FolderCloud<R, K>, CloudFault>
+        ensures opened { OnOk result (IsOk opened) }
+        ensures fresh { IfOk result IsFresh }
+    {
+        match opened {
             Ok(folder) => Ok(FolderCloud {
                 folder,
                 faults: 0,

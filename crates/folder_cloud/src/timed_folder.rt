@@ -33,7 +33,27 @@ impl<R: Files<File = File> + AllocGlobal + Drop, K: Ticks + Drop> TimedFolder<R,
     pub fn open(rt: R, dir: &str, ticks: K) -> Result<TimedFolder<R, K>, FolderFault>
         ensures named { OnOk result (1 ≤ length dir.now) }
     {
-        let folder = Folder::open(rt, dir)?;
+        let mut folder = Folder::at(rt, dir)?;
+        folder.make_ready()?;
+        let clock = Clock::start(ticks);
+        Ok(TimedFolder { folder, clock })
+    }
+
+    /// The folder at a path. Failed where no store is there.
+    pub fn open_standing(rt: R, dir: &str, ticks: K) -> Result<TimedFolder<R, K>, FolderFault>
+        ensures named { OnOk result (1 ≤ length dir.now) }
+    {
+        let mut folder = Folder::at(rt, dir)?;
+        folder.must_be_there()?;
+        let clock = Clock::start(ticks);
+        Ok(TimedFolder { folder, clock })
+    }
+
+    /// The folder at a path, which the first call or look makes where there is none. Failed for an empty path.
+    pub fn open_at_first_call(rt: R, dir: &str, ticks: K) -> Result<TimedFolder<R, K>, FolderFault>
+        ensures named { OnOk result (1 ≤ length dir.now) }
+    {
+        let folder = Folder::at(rt, dir)?;
         let clock = Clock::start(ticks);
         Ok(TimedFolder { folder, clock })
     }
@@ -158,13 +178,13 @@ impl<R: Files<File = File> + AllocGlobal + Drop, K: Ticks + Drop> TimedFolder<R,
     }
 
     /// Looks at the newest version of an object.
-    pub fn peek(&self, name: &ObjName) -> Result<Option<Blob>, FolderFault> {
+    pub fn peek(&mut self, name: &ObjName) -> Result<Option<Blob>, FolderFault> {
         let held = self.folder.hold()?;
         self.folder.get(&held, name)
     }
 
     /// Looks how many messages of a queue are not deleted.
-    pub fn backlog(&self, queue: &QueueName) -> Result<u64, FolderFault> {
+    pub fn backlog(&mut self, queue: &QueueName) -> Result<u64, FolderFault> {
         let held = self.folder.hold()?;
         self.folder.backlog(&held, queue)
     }

@@ -1,0 +1,7 @@
+use Rattle.fleet.proofs.Grows.{grows}
+use Rattle.fleet.proofs.Keeps.{keeps}
+use Rattle.fleet.proofs.Right.{right_at, once_at}
+use Rattle.fleet.proofs.fleet_is_right.Goals as goal
+
+pub returns : goal.returns
+returns c = record { stands = right_at; grows = grows; keeps = keeps; once = once_at }

@@ -1,0 +1,6 @@
+-- Fleets of programs on one store.
+pub mod Fleet
+pub mod Acts
+pub mod Course
+pub mod Right
+pub mod Kept

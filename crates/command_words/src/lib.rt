@@ -2,5 +2,6 @@
 #![tactic(auto)]
 
 mod command;
+pub mod place;
 pub mod read;
 pub mod shape;

@@ -1,6 +1,6 @@
 //! The inserts of the records of a dump.
 
-ghost use Rattle.std.specs.Prelude.{◌≡◌, length, IfSome, IfOk};
+ghost use Rattle.std.specs.Prelude.{◌≡◌, ◌≤◌, ◌^◌, length, MatchOption, IfOk};
 ghost use Rattle.load_plan.specs.Events.{insert_of, records_of};
 
 use db_base::blob::Blob;
@@ -28,9 +28,10 @@ pub fn insert_of(alloc: Global, tree: u64, stored: &Stored) -> Result<Event, All
     })
 }
 
-/// How many records a dump has, where 64 bits have room for the number.
+/// How many records a dump has; none exactly where 64 bits have no room for the number.
 pub fn count_records(dump: &Dump) -> Option<u64>
-    ensures { IfSome result (λ n. n ≡ length (records_of dump.now.trees)) }
+    ensures { MatchOption result (2 ^ 64 ≤ length (records_of dump.now.trees))
+        (λ n. n ≡ length (records_of dump.now.trees)) }
 {
     let mut count: u64 = 0;
     let mut left = dump.trees.as_slice();

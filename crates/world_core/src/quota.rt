@@ -30,6 +30,7 @@ impl Quota {
     pub(crate) fn take(&mut self) -> bool
         ensures taken { result ≡ true → self.new + 1 ≡ self.old }
         ensures spent { result ≡ false → self.new ≡ self.old }
+        ensures none { result ≡ false → self.old ≡ 0 }
     {
         match self.left.checked_sub(1) {
             Some(left) => {

@@ -5,8 +5,7 @@ mod seconds;
 
 use cloud_trait::cloud::Bench;
 use cloud_trait::fault::CloudFault;
-use command_words::read::shape;
-use command_words::shape::Shape;
+use command_words::place::{Place, place_of};
 use db_io::std_sink::StdSink;
 use db_io::std_source::StdSource;
 use folder_cloud::FolderCloud;
@@ -18,7 +17,7 @@ use seconds::Seconds;
 use std::io;
 use std::process::ExitCode;
 
-/// The exit status of a run whose folder could not be opened.
+/// The exit status of a run whose folder could not be opened, or holds no store where one must stand.
 const NO_FOLDER: u8 = 8;
 
 fn main(rt: HostRuntime) -> ExitCode {
@@ -26,20 +25,46 @@ fn main(rt: HostRuntime) -> ExitCode {
         Ok(words) => words,
         Err(fault) => return ExitCode::from(Status::from(fault).code()),
     };
-    let asked = shape(rt.alloc(), words.as_slice());
-    ExitCode::from(match asked {
-        Ok(Shape::Shell { dir, .. })
-        | Ok(Shape::Settle { dir })
-        | Ok(Shape::Dump { dir })
-        | Ok(Shape::Load { dir }) => {
-            match FolderCloud::open(&rt, dir.as_str(), Seconds::of(&rt)) {
-                Ok(mut cloud) => run_over(&rt, words.as_slice(), &mut cloud),
-                Err(CloudFault::Failed) => NO_FOLDER,
-                Err(CloudFault::Memory) => Status::Memory.code(),
-            }
-        }
-        Ok(_) | Err(_) => run_over(&rt, words.as_slice(), &mut MemoryCloud::new(rt.alloc())),
+    ExitCode::from(match place_of(rt.alloc(), words.as_slice()) {
+        Ok(place) => run_at(&rt, words.as_slice(), place),
+        Err(fault) => Status::from(fault).code(),
     })
+}
+
+/// The exit status of a run of the words at their place.
+fn run_at(rt: &HostRuntime, words: &[String], place: Place) -> u8 {
+    let clock = Seconds::of(rt);
+    match place {
+        Place::InMemory => run_over(rt, words, &mut MemoryCloud::new(rt.alloc())),
+        Place::Made { dir } => run_in(rt, words, FolderCloud::open(rt, dir.as_str(), clock)),
+        Place::Standing { dir } => {
+            run_in(
+                rt,
+                words,
+                FolderCloud::open_standing(rt, dir.as_str(), clock),
+            )
+        }
+        Place::MadeAtFirstCall { dir } => {
+            run_in(
+                rt,
+                words,
+                FolderCloud::open_at_first_call(rt, dir.as_str(), clock),
+            )
+        }
+    }
+}
+
+/// The exit status of a run of the words over a folder, or of the fault that it was not opened for.
+fn run_in<C: Bench + Drop>(
+    rt: &HostRuntime,
+    words: &[String],
+    opened: Result<C, CloudFault>,
+) -> u8 {
+    match opened {
+        Ok(mut cloud) => run_over(rt, words, &mut cloud),
+        Err(CloudFault::Failed) => NO_FOLDER,
+        Err(CloudFault::Memory) => Status::Memory.code(),
+    }
 }
 
 /// The exit status of a run of the words over a cloud.

@@ -1,3 +1,4 @@
+use command_words::place::{Place, place_of};
 use command_words::read::shape;
 use command_words::shape::{Shape, WordsFault};
 use std::alloc::Global;
@@ -22,6 +23,16 @@ const SHAPES: [(&[&str], &str, &[u64], &str); 13] = [
     (&["dump", "a b"], "dump", &[], "a b"),
     (&["dump", "load"], "dump", &[], "load"),
     (&["load", ""], "load", &[], ""),
+];
+
+/// Words, the name of the place where they run, and its folder.
+const PLACES: [(&[&str], &str, &str); 6] = [
+    (&["replay"], "in memory", ""),
+    (&["gen", "7", "1"], "in memory", ""),
+    (&["shell", "1", "store"], "made", "store"),
+    (&["settle", "store"], "standing", "store"),
+    (&["dump", "a b"], "standing", "a b"),
+    (&["load", ""], "made at the first call", ""),
 ];
 
 /// Words of no shape.
@@ -101,17 +112,49 @@ fn are_read(alloc: Global, words: &[&str], name: &str, numbers: &[u64], folder: 
     }
 }
 
-/// Whether words are of no shape.
+/// Whether a place has this name and this folder.
+fn is_place(place: &Place, name: &str, folder: &str) -> bool {
+    match place {
+        Place::InMemory => name == "in memory",
+        Place::Made { dir } => name == "made" && dir.as_str() == folder,
+        Place::Standing { dir } => name == "standing" && dir.as_str() == folder,
+        Place::MadeAtFirstCall { dir } => {
+            name == "made at the first call" && dir.as_str() == folder
+        }
+    }
+}
+
+/// Whether words run at a place of this name and this folder.
+fn are_placed(alloc: Global, words: &[&str], name: &str, folder: &str) -> bool {
+    let mut list = Vec::new(alloc);
+    if !add_words(alloc, &mut list, words) {
+        return false;
+    }
+    match place_of(alloc, list.as_slice()) {
+        Ok(place) => is_place(&place, name, folder),
+        Err(_) => false,
+    }
+}
+
+/// Whether words are of no shape, and run nowhere.
 fn are_refused(alloc: Global, words: &[&str]) -> bool {
     let mut list = Vec::new(alloc);
     add_words(alloc, &mut list, words)
         && matches!(shape(alloc, list.as_slice()), Err(WordsFault::BadWords))
+        && matches!(place_of(alloc, list.as_slice()), Err(WordsFault::BadWords))
 }
 
 #[test]
 fn the_shapes_are_read(rt: HostRuntime) {
     for (words, name, numbers, folder) in &SHAPES {
         assert!(rt; are_read(rt.alloc(), words, name, numbers, folder));
+    }
+}
+
+#[test]
+fn the_places_are_told(rt: HostRuntime) {
+    for (words, name, folder) in &PLACES {
+        assert!(rt; are_placed(rt.alloc(), words, name, folder));
     }
 }
 

@@ -32,11 +32,36 @@ fn is_same_file(one: &Metadata, other: &Metadata) -> bool {
     one.is_file() && other.is_file() && one.dev() == other.dev() && one.ino() == other.ino()
 }
 
-/// Opens the file at a path to read and write, and makes one where there is none. What was opened is told by `is_own`.
+/// Opens the regular file at a path to read and write, and makes one where there is none. Failed where anything else stands there:
+/// a link would be followed. What was opened all the same is told by `is_own`.
 pub(crate) fn open_or_make<R: Files<File = File>>(rt: &R, path: &str) -> Result<File, FolderFault> {
+    match look(rt, path)? {
+        Some(there) if there.is_file() => open_both(rt, path),
+        Some(_) => Err(FolderFault::Failed),
+        None => match new_file().open(rt, path) {
+            Ok(file) => Ok(file),
+            Err(error) => match error.kind() {
+                // Another process made it since.
+                ErrorKind::AlreadyExists => open_both(rt, path),
+                _ => Err(FolderFault::from(error)),
+            },
+        },
+    }
+}
+
+// Opens the file at a path to read and write.
+fn open_both<R: Files<File = File>>(rt: &R, path: &str) -> Result<File, FolderFault> {
     let mut options = OpenOptions::new();
-    options.read(true).write(true).create(true).mode(FILE_MODE);
+    options.read(true).write(true);
     Ok(options.open(rt, path)?)
+}
+
+// How a file is made to read and write where nothing stands.
+fn new_file() -> OpenOptions {
+    let mut options = OpenOptions::new();
+    options.read(true).write(true).create_new(true);
+    options.mode(FILE_MODE);
+    options
 }
 
 /// Whether an open file is the regular file that stands at a path, and stands nowhere else.
@@ -74,9 +99,7 @@ pub(crate) fn landed(done: io::Result<()>) -> Result<(), FolderFault> {
 
 /// Makes a file at a path where nothing stands.
 pub(crate) fn make_new<R: Files<File = File>>(rt: &R, path: &str) -> Result<File, FolderFault> {
-    let mut options = OpenOptions::new();
-    options.write(true).create_new(true).mode(FILE_MODE);
-    Ok(options.open(rt, path)?)
+    Ok(new_file().open(rt, path)?)
 }
 
 /// The bytes of the regular file at a path; none where there is nothing. Failed where it is anything else or has too many bytes. To
@@ -130,18 +153,37 @@ pub(crate) fn make_folder<R: Files>(rt: &R, path: &str) -> Result<(), FolderFaul
     Ok(())
 }
 
-/// Makes a folder where there is none, and flushes its name.
-pub(crate) fn keep_folder<R: Files<File = File>>(rt: &R, path: &str) -> Result<(), FolderFault> {
-    match make_folder(rt, path) {
-        Ok(()) => flush_names(rt, above(path)),
-        Err(fault) => {
-            if !fs::metadata(rt, path)?.is_dir() {
-                return Err(fault);
-            }
-            // It may have been made by a process that was killed before it flushed the name; what another made is not ours to flush.
-            let _flushed = flush_names(rt, above(path));
-            Ok(())
-        }
+/// Makes a folder where there is none, and flushes its name, since whoever made it may have been killed before that.
+pub(crate) fn keep_folder<R: Files<File = File> + AllocGlobal>(
+    rt: &R,
+    path: &str,
+) -> Result<(), FolderFault> {
+    match open_folder(rt, above(path)) {
+        Ok(names) => match make_folder(rt, path) {
+            Ok(()) => Ok(names.sync_all()?),
+            Err(fault) => found(rt, path, fault, names.sync_all()),
+        },
+        Err(error) => found(rt, path, FolderFault::Failed, Err(error)),
+    }
+}
+
+// The same for a folder that was not made, but found, or else this fault. No shell made it where the one above it may not be read, or
+// its file system flushes no names: then none is to be flushed.
+fn found<R: Files>(
+    rt: &R,
+    path: &str,
+    fault: FolderFault,
+    flushed: io::Result<()>,
+) -> Result<(), FolderFault> {
+    if !fs::metadata(rt, path)?.is_dir() {
+        return Err(fault);
+    }
+    match flushed {
+        Ok(()) => Ok(()),
+        Err(error) => match error.kind() {
+            ErrorKind::PermissionDenied | ErrorKind::InvalidInput => Ok(()),
+            _ => Err(FolderFault::from(error)),
+        },
     }
 }
 
@@ -154,9 +196,22 @@ fn above(path: &str) -> &str {
     }
 }
 
+/// Opens a folder to flush the names in it. A path that ends with a slash is one of a folder, so that nobody waits at a pipe.
+pub(crate) fn open_folder<R: Files<File = File> + AllocGlobal>(
+    rt: &R,
+    folder: &str,
+) -> io::Result<File> {
+    let mut path = String::from_str(rt.alloc(), folder)?;
+    path.push('/')?;
+    fs::open(rt, path.as_str())
+}
+
 /// Flushes the names of the files and folders in a folder.
-pub(crate) fn flush_names<R: Files<File = File>>(rt: &R, folder: &str) -> Result<(), FolderFault> {
-    let names = fs::open(rt, folder)?;
+pub(crate) fn flush_names<R: Files<File = File> + AllocGlobal>(
+    rt: &R,
+    folder: &str,
+) -> Result<(), FolderFault> {
+    let names = open_folder(rt, folder)?;
     names.sync_all()?;
     Ok(())
 }

@@ -6,10 +6,11 @@ ghost use Rattle.cloud_trait.specs.Listing.{AscendAbove};
 
 use crate::fault::FolderFault;
 use crate::files::{
-    flush_names, keep_folder, look, make_folder, make_new, named, read, remove, write_over,
+    flush_names, keep_folder, look, make_folder, make_new, named, open_folder, read, remove,
+    write_over,
 };
 use crate::held::Held;
-use crate::numbers::{hold_bytes, hold_in, id_in, id_name, number_in};
+use crate::numbers::{hold_bytes, hold_in, id_in, id_name, noted_in};
 use crate::rules::{is_held, lease_end, next_number, put_in_order, was_given};
 use cloud_trait::grant::Grant;
 use cloud_trait::lease::Lease;
@@ -18,9 +19,11 @@ use cloud_trait::state::Hold;
 use db_base::blob::Blob;
 use db_base::ids::{MsgId, PageId, TreeId};
 use db_base::names::{Lock, ObjName, QueueName};
+use db_base::text::Text;
 use folder_names::fault::NameFault;
-use folder_names::files::{file_of, folder_of, lock_of};
+use folder_names::files::{file_of, lock_of};
 use folder_names::objects::page_of;
+use folder_names::parts::{Part, path_of};
 use std::alloc::Global;
 use std::fs;
 use std::fs::File;
@@ -33,6 +36,9 @@ const OBJECTS: &str = "objects";
 const LOCKS: &str = "locks";
 
 const QUEUES: &str = "queues";
+
+/// The parts in the order in which they are made, so that a folder with its objects has them all.
+const PARTS: [&str; 3] = [LOCKS, QUEUES, OBJECTS];
 
 const IN_USE: &str = "in-use";
 
@@ -75,31 +81,56 @@ impl<R: Files<File = File> + AllocGlobal + Drop> Folder<R> {
 
     /// Failed where no store is there: one has its objects' part. Nothing is made.
     pub fn must_be_there(&mut self) -> Result<(), FolderFault> {
-        let objects = self.path(OBJECTS, "")?;
-        match look(&self.rt, objects.as_str())? {
-            Some(there) if there.is_dir() => {
-                self.is_there = true;
-                Ok(())
-            }
-            _ => Err(FolderFault::Failed),
+        if !self.has_part(OBJECTS)? {
+            return Err(FolderFault::Failed);
         }
+        self.is_there = true;
+        Ok(())
     }
 
     // Makes the folder, those above it and its parts, and flushes their names.
     fn make(&self) -> Result<(), FolderFault> {
+        let whole = self.has_parts()?;
         let dir = self.dir.as_str();
         for (end, _) in dir.match_indices('/') {
             match dir.get(..end) {
                 Some("") | None => {}
-                Some(above) => keep_folder(&self.rt, above)?,
+                Some(above) => self.keep(above, whole)?,
             }
         }
-        keep_folder(&self.rt, dir)?;
-        for part in [OBJECTS, LOCKS, QUEUES] {
+        self.keep(dir, whole)?;
+        for part in PARTS {
             let path = self.path(part, "")?;
             keep_folder(&self.rt, path.as_str())?;
         }
         Ok(())
+    }
+
+    // Whether all parts are there.
+    fn has_parts(&self) -> Result<bool, FolderFault> {
+        for part in PARTS {
+            if !self.has_part(part)? {
+                return Ok(false);
+            }
+        }
+        Ok(true)
+    }
+
+    // Whether a part is there.
+    fn has_part(&self, part: &str) -> Result<bool, FolderFault> {
+        let path = self.path(part, "")?;
+        match look(&self.rt, path.as_str())? {
+            Some(there) => Ok(there.is_dir()),
+            None => Ok(false),
+        }
+    }
+
+    // Makes a folder and flushes its name. Where all parts are there, whoever made them flushed it, and to flush it again may fail.
+    fn keep(&self, path: &str, whole: bool) -> Result<(), FolderFault> {
+        match keep_folder(&self.rt, path) {
+            Err(FolderFault::Failed) if whole => Ok(()),
+            kept => kept,
+        }
     }
 
     // The path of a name in a part of the folder, or of the part.
@@ -123,15 +154,16 @@ impl<R: Files<File = File> + AllocGlobal + Drop> Folder<R> {
         let path = self.path(IN_USE, "")?;
         let held = Held::of(&self.rt, path.as_str())?;
         if let Some(part) = held.marked(self.rt.alloc())? {
-            self.flush_marked(part.as_str())?;
+            self.flush_marked(part)?;
             held.unmark()?;
         }
         Ok(held)
     }
 
-    // Flushes the names in a part. A mark may be anything after a power failure, and need not name a part then.
-    fn flush_marked(&self, part: &str) -> Result<(), FolderFault> {
-        let path = self.path(part, "")?;
+    // Flushes the names in a part, where it is there.
+    fn flush_marked(&self, part: Part) -> Result<(), FolderFault> {
+        let part = path_of(self.rt.alloc(), part)?;
+        let path = self.path(part.as_str(), "")?;
         match look(&self.rt, path.as_str())? {
             Some(there) if there.is_dir() => flush_names(&self.rt, path.as_str()),
             _ => Ok(()),
@@ -141,7 +173,7 @@ impl<R: Files<File = File> + AllocGlobal + Drop> Folder<R> {
     // A part of the folder, open to flush its names.
     fn names(&self, part: &str) -> Result<File, FolderFault> {
         let path = self.path(part, "")?;
-        Ok(fs::open(&self.rt, path.as_str())?)
+        Ok(open_folder(&self.rt, path.as_str())?)
     }
 
     // The bytes of a file in a part; none where there is no file.
@@ -212,12 +244,8 @@ impl<R: Files<File = File> + AllocGlobal + Drop> Folder<R> {
     }
 
     // The part of a queue.
-    fn queue_part(&self, queue: &QueueName) -> Result<String, FolderFault> {
-        let folder = folder_of(self.rt.alloc(), *queue)?;
-        let mut part = String::from_str(self.rt.alloc(), QUEUES)?;
-        part.push('/')?;
-        part.push_str(folder.as_str())?;
-        Ok(part)
+    fn queue_part(&self, queue: &QueueName) -> Result<Text, FolderFault> {
+        Ok(path_of(self.rt.alloc(), Part::Queue(*queue))?)
     }
 
     // Makes the part of a queue, where there is none.
@@ -235,7 +263,7 @@ impl<R: Files<File = File> + AllocGlobal + Drop> Folder<R> {
     // The number that was noted in a queue; 0 where none was, or what was is lost.
     fn noted(&self, queue: &str) -> Result<u64, FolderFault> {
         match self.read(queue, LAST)? {
-            Some(bytes) => Ok(number_in(bytes.as_slice()).unwrap_or(0)),
+            Some(bytes) => Ok(noted_in(bytes.as_slice())),
             None => Ok(0),
         }
     }

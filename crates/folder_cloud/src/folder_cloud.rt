@@ -55,9 +55,7 @@ impl<R: Files<File = File> + AllocGlobal + Drop, K: Ticks + Drop> FolderCloud<R,
     }
 
     // The cloud over what was opened.
-    fn over(
-        opened: Result<TimedFolder<R, K>, FolderFault>,
-    ) -> Result<FolderCloud<R, K>, CloudFault>
+    fn over(opened: Result<TimedFolder<R, K>, FolderFault>) -> Result<FolderCloud<R, K>, CloudFault>
         ensures opened { OnOk result (IsOk opened) }
         ensures fresh { IfOk result IsFresh }
     {

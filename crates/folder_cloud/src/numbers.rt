@@ -1,5 +1,8 @@
 //! Numbers as files hold them and as they stand in the names of files.
 
+ghost use Rattle.std.specs.Prelude.{◌<◌};
+ghost use Rattle.cloud_trait.specs.State.{greatest};
+
 use cloud_trait::state::Hold;
 use std::alloc::{AllocError, Global};
 
@@ -8,6 +11,16 @@ pub(crate) fn number_in(bytes: &[u8]) -> Option<u64> {
     match bytes {
         [a, b, c, d, e, f, g, h] => { Some(u64::from_be_bytes([*a, *b, *c, *d, *e, *f, *g, *h])) }
         _ => None,
+    }
+}
+
+/// The number that the bytes note; 0 where they note none: the greatest is a number that is lost, since no message has it.
+pub(crate) fn noted_in(bytes: &[u8]) -> u64
+    ensures lost { result < greatest }
+{
+    match number_in(bytes) {
+        Some(number) if number < u64::MAX => number,
+        _ => 0,
     }
 }
 

@@ -1,9 +1,9 @@
-ghost use Rattle.std.specs.Prelude.{◌≡◌, ◌≤◌, length, Err, IfOk, IfSome, OnOk, Ok};
+ghost use Rattle.std.specs.Prelude.{◌≡◌, ◌≤◌, length, Err, IfNone, IfOk, IfSome, OnOk, Ok};
 ghost use Rattle.std.specs.Option.{option_copied};
-ghost use Rattle.cloud_trait.specs.Claim.{Claim, IsOver};
+ghost use Rattle.cloud_trait.specs.Claim.{Claim, IsOver, Lasts};
 ghost use Rattle.cloud_trait.specs.Listing.{AscendAbove};
 ghost use Rattle.cloud_trait.specs.Weather.{FirstOver};
-ghost use Rattle.folder_cloud.specs.Lateness.{IfLate};
+ghost use Rattle.folder_cloud.specs.Lateness.{AllLast, IfLate};
 
 use crate::clock::Clock;
 use crate::fault::{FolderFault, HeldStop};
@@ -73,6 +73,7 @@ impl<R: Files<File = File> + AllocGlobal + Drop, K: Ticks + Drop> TimedFolder<R,
     // The same for a call that names leases.
     fn begin_under(&mut self, first: &Lease, second: Option<&Lease>) -> Result<Held, HeldStop>
         ensures late { IfLate result (λ end now. FirstOver now first.now (option_copied second.entry) end) }
+        ensures lasting { OnOk result (AllLast self.new.clock.latest first.now (option_copied second.entry)) }
     {
         let held = self.begin()?;
         let now = self.clock.latest();
@@ -95,6 +96,7 @@ impl<R: Files<File = File> + AllocGlobal + Drop, K: Ticks + Drop> TimedFolder<R,
     /// The newest version of an object, under a lease.
     pub fn get_held(&mut self, name: &ObjName, lease: &Lease) -> Result<Option<Blob>, HeldStop>
         ensures late { IfLate result (λ end now. IsOver now lease.now × (end ≡ lease.now.end)) }
+        ensures lasting { OnOk result (Lasts self.new.clock.latest lease.now) }
     {
         let held = self.begin_under(lease, None)?;
         Ok(self.folder.get(&held, name)?)
@@ -109,6 +111,7 @@ impl<R: Files<File = File> + AllocGlobal + Drop, K: Ticks + Drop> TimedFolder<R,
         second: Option<&Lease>,
     ) -> Result<(), HeldStop>
         ensures late { IfLate result (λ end now. FirstOver now first.now (option_copied second.entry) end) }
+        ensures lasting { OnOk result (AllLast self.new.clock.latest first.now (option_copied second.entry)) }
     {
         let held = self.begin_under(first, second)?;
         self.folder.put(&held, name, bytes)?;
@@ -119,6 +122,7 @@ impl<R: Files<File = File> + AllocGlobal + Drop, K: Ticks + Drop> TimedFolder<R,
     pub fn list_held(&mut self, tree: TreeId, lease: &Lease) -> Result<Vec<PageId>, HeldStop>
         ensures ascending { IfOk result (λ pages. AscendAbove 0 pages.items) }
         ensures late { IfLate result (λ end now. IsOver now lease.now × (end ≡ lease.now.end)) }
+        ensures lasting { OnOk result (Lasts self.new.clock.latest lease.now) }
     {
         let held = self.begin_under(lease, None)?;
         Ok(self.folder.pages(&held, tree)?)
@@ -127,6 +131,7 @@ impl<R: Files<File = File> + AllocGlobal + Drop, K: Ticks + Drop> TimedFolder<R,
     /// Removes an object, where it is there, under a lease.
     pub fn remove_held(&mut self, name: &ObjName, lease: &Lease) -> Result<(), HeldStop>
         ensures late { IfLate result (λ end now. IsOver now lease.now × (end ≡ lease.now.end)) }
+        ensures lasting { OnOk result (Lasts self.new.clock.latest lease.now) }
     {
         let held = self.begin_under(lease, None)?;
         self.folder.remove(&held, name)?;
@@ -164,6 +169,7 @@ impl<R: Files<File = File> + AllocGlobal + Drop, K: Ticks + Drop> TimedFolder<R,
     /// Moves the end of a lease's lock to some ticks from now: where to.
     pub fn renew(&mut self, lease: &Lease, ticks: u64) -> Result<u64, HeldStop>
         ensures late { IfLate result (λ end now. IsOver now lease.now × (end ≡ lease.now.end)) }
+        ensures lasting { OnOk result (Lasts self.new.clock.latest lease.now) }
     {
         let held = self.begin_under(lease, None)?;
         let until = lease_end(self.clock.latest(), ticks);
@@ -192,7 +198,8 @@ impl<R: Files<File = File> + AllocGlobal + Drop, K: Ticks + Drop> TimedFolder<R,
 
 // The end of the first lease that is over.
 fn first_over(now: u64, first: &Lease, second: Option<&Lease>) -> Option<u64>
-    ensures { IfSome result (λ end. FirstOver now first.now (option_copied second.entry) end) }
+    ensures over { IfSome result (λ end. FirstOver now first.now (option_copied second.entry) end) }
+    ensures lasting { IfNone result (AllLast now first.now (option_copied second.entry)) }
 {
     if first.end() <= now {
         return Some(first.end());

@@ -60,6 +60,11 @@ IsObject (object.Head client) = IsClient client
 IsObject (object.Tree tree) = IsTree tree
 IsObject (object.Page tree page) = IsTree tree × IsPage page × (page < 2 ^ 64)
 
+abbrev pub IsQueue : QueueName → Type 0
+IsQueue (queue.Atomic client) = IsClient client
+IsQueue (queue.TreePu tree) = IsTree tree
+IsQueue (queue.PagePu tree page) = IsTree tree × IsPage page × (page < 2 ^ 64)
+
 -- the one byte
 abbrev pub only : List ℕ → Option ℕ
 only [] = None
@@ -77,3 +82,7 @@ IsNoPlace text = (tree page : ℕ) → IsTree tree → IsPage page → page < 2 
 -- and is the file of no page of this tree
 abbrev pub IsNoPageOf : ℕ → List ℕ → Type 0
 IsNoPageOf tree text = (page : ℕ) → IsObject (object.Page tree page) → text ≢ file_text (object.Page tree page)
+
+-- the text names no queue of a tree, nor of a page
+abbrev pub IsNoUpdates : List ℕ → Type 0
+IsNoUpdates text = (tree page : ℕ) → IsTree tree → page < 2 ^ 64 → text ≢ place_text tree page

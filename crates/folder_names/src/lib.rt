@@ -4,3 +4,5 @@
 pub mod fault;
 pub mod files;
 pub mod objects;
+pub mod parts;
+pub mod queues;

@@ -13,7 +13,7 @@ use words::bytes::bytes_of;
 use words::fault::TextFault;
 
 /// The bytes that a word spells.
-fn decoded(alloc: Global, word: &[u8]) -> Result<Blob, NameFault>
+pub(crate) fn decoded(alloc: Global, word: &[u8]) -> Result<Blob, NameFault>
     ensures ok { IfOk result (λ bytes. word.now ≡ hexadecimal bytes) }
     ensures bytes { IfOk result AreBytes }
     ensures none { IfNotOurs result ((bytes : List ℕ) → AreBytes bytes → word.now ≢ hexadecimal bytes) }
@@ -37,7 +37,7 @@ fn only(bytes: &[u8]) -> Option<u8>
 
 /// The tree and page that bytes spell.
 #[tactic(auto, unfolding(crate::specs::Names::place_bytes))]
-fn place(bytes: &[u8]) -> Option<(u8, u64)>
+pub(crate) fn place(bytes: &[u8]) -> Option<(u8, u64)>
     ensures some { (tree page : ℕ) → result ≡ Some (tree, page) → bytes.now ≡ place_bytes tree page }
     ensures fits { (tree page : ℕ) → result ≡ Some (tree, page) → page < 2 ^ 64 }
     ensures none { result ≡ None → length bytes.now ≢ 9 }
@@ -67,7 +67,7 @@ fn number_in(alloc: Global, word: &[u8]) -> Result<u8, NameFault>
 }
 
 /// The client that a word spells.
-fn client_in(alloc: Global, word: &[u8]) -> Result<ClientId, NameFault>
+pub(crate) fn client_in(alloc: Global, word: &[u8]) -> Result<ClientId, NameFault>
     ensures ok { IfOk result (λ client. word.now ≡ hexadecimal (client ∷ [])) }
     ensures none { IfNotOurs result ((n : ℕ) → IsClient n → word.now ≢ hexadecimal (n ∷ [])) }
 {

@@ -6,9 +6,11 @@ and waiting messages. A case is one call, and a hit: the process is killed befor
 Behind each case the dead leases are ended, all clients are opened again, the store is settled and each tree is scanned: what was
 answered `committed` is there, what was answered `not-committed` is not, and all else is there whole or not at all.
 
-Then a pipe is put in the place of each file in turn: a shell and a settling end by themselves.
+Then a pipe is put in the place of each file and each folder in turn: a shell and a settling end by themselves. A link to nothing is put in
+the place of each: nothing is made where it leads. And `in-use` is given marks of every kind, as a kill or a power failure leaves them: a
+mark that names a part of the store is flushed, any other is dropped, and the store is used as ever.
 
-It wants strace. Usage: bench/each_call.py PROGRAM [NAME..]     (commit, cut, settle, pipe: all four where none is given)
+It wants strace. Usage: bench/each_call.py PROGRAM [NAME..]     (commit, cut, settle, pipe, link, mark: all six where none is given)
 The stores stand under /dev/shm, where a flush costs nothing: TMPDIR names another place.
 """
 
@@ -159,28 +161,86 @@ def run(program, name, work):
     return len(wrong)
 
 
-def pipes(program, work):
-    """Puts a pipe in the place of each file of a store, and runs a shell and a settling, which end by themselves."""
+def in_place_of_each(program, work, put):
+    """Puts something in the place of each file and folder of a store, and runs a shell and a settling, which end by themselves."""
     template = prepare(program, "settle", work)
-    files = [path.relative_to(template) for path in template.rglob("*") if path.is_file()]
-    for file in files:
+    paths = sorted(path.relative_to(template) for path in template.rglob("*"))
+    for path in paths:
         store = Store(program, work / "store")
         shutil.copytree(template, store.folder)
-        (store.folder / file).unlink()
-        os.mkfifo(store.folder / file)
+        place = store.folder / path
+        shutil.rmtree(place) if place.is_dir() else place.unlink()
+        put(place)
         for client in (1, None):
             store.run(client, [*THREE, "commit", "tree 1"])
         shutil.rmtree(store.folder)
-    print(f"pipe: in the place of each of {len(files)} files, and nothing hung")
+    return len(paths)
+
+
+def pipes(program, work):
+    count = in_place_of_each(program, work, os.mkfifo)
+    print(f"pipe: in the place of each of {count} files and folders, and nothing hung")
     return 0
 
 
+def links(program, work):
+    elsewhere = work / "elsewhere"
+    count = in_place_of_each(program, work, lambda place: place.symlink_to(elsewhere))
+    made = os.path.lexists(elsewhere)
+    print(f"link: to nothing, in the place of each of {count} files and folders, and {'something' if made else 'nothing'} was made there")
+    return int(made)
+
+
+def marks_for(queue):
+    """Marks, and whether each names a part of a store that has this queue."""
+    wrong = [bytes(7), bytes(33), b"object", b"objects\n", b"objects/", b"objects" + b"s" * 60, b"\xff" * 40, b"no/part", b"locks", b"in-use"]
+    wrong += [b"..", b"../elsewhere", b"queues/..", b"queues/../../elsewhere", b"/", b"queues/", b"queues/atomic-41", queue[:-1], queue + b"0", queue + bytes(3)]
+    missing = [b"queues/atomic-40", b"queues/updates-10000000000000ffff"]
+    return [(mark, False) for mark in [*wrong, *missing]] + [(mark, True) for mark in (b"objects", b"queues", queue)]
+
+
+def flushed_by(store, log):
+    """What the first call of a look flushes, below the store: a shell of a client that has a session open makes one call."""
+    store.run(None, (), ["strace", "-y", "-o", str(log), "-e", "trace=flock,fsync,ftruncate"])
+    first = log.read_text().split("flock(")[1]
+    return [os.path.relpath(path, store.folder) for path in re.findall(r"^fsync\([0-9]+<([^>]*)>", first, re.M)]
+
+
+def marks(program, work):
+    """Puts each mark into `in-use`: the first call flushes the part that it names and nothing else, and leaves none."""
+    operation = OPERATIONS["commit"]
+    template = prepare(program, "commit", work)
+    old, new = ends_of(program, template, operation, work)
+    queue = b"queues/" + next(path.name for path in (template / "queues").iterdir()).encode()
+    wrong = 0
+    for mark, is_part in marks_for(queue):
+        stores = [Store(program, work / name) for name in ("flushed", "used")]
+        for store in stores:
+            shutil.copytree(template, store.folder)
+            (store.folder / "in-use").write_bytes(mark)
+        flushed = flushed_by(stores[0], work / "log")
+        status, replies = stores[1].run(operation[1], operation[2])
+        left = [(store.folder / "in-use").read_bytes() for store in stores]
+        found = settles(stores[1])
+        if (flushed, status, left, found) != ([mark.decode()] if is_part else [], 0, [b"", b""], new):
+            wrong += 1
+            print(f"mark {mark}: flushed {flushed}, status {status}, left {left}, found {found}: {replies}")
+        for store in stores:
+            shutil.rmtree(store.folder)
+    print(f"mark: {len(marks_for(queue))} marks in `in-use`, {wrong} wrong")
+    return wrong
+
+
+# what is put in the place of files, or into one
+OTHERS = {"pipe": pipes, "link": links, "mark": marks}
+
+
 def main(words):
-    program, names = os.path.abspath(words[0]), words[1:] or [*OPERATIONS, "pipe"]
+    program, names = os.path.abspath(words[0]), words[1:] or [*OPERATIONS, *OTHERS]
     wrong = 0
     for name in names:
         with tempfile.TemporaryDirectory(dir=os.environ.get("TMPDIR", "/dev/shm")) as work:
-            wrong += pipes(program, Path(work)) if name == "pipe" else run(program, name, Path(work))
+            wrong += OTHERS[name](program, Path(work)) if name in OTHERS else run(program, name, Path(work))
     return min(wrong, 1)
 
 

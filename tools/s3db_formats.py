@@ -362,6 +362,8 @@ MESSAGE_FILE = re.compile(r"[0-9a-f]{16}")
 # Files that stand among others and are no object, lock or message: one that was being written, and the greatest number that a queue gave
 # to a message that is gone.
 ASIDE, LAST = "aside", "last"
+# The folders of a store, and the file beside them that a call locks, in which the folder stands whose names are changing.
+PARTS, IN_USE = ("objects", "queues", "locks"), "in-use"
 
 
 def name_in(pattern, text, kinds):
@@ -384,6 +386,15 @@ def object_in(text):
 
 def queue_in(text):
     return name_in(QUEUE_FOLDER, text, {"updates": "pu"})
+
+
+def part_in(mark):
+    """The part of a store in which names change whose path the bytes of a mark spell, or None."""
+    text = mark.decode("ascii", "replace")
+    if text in ("objects", "queues"):
+        return text
+    above, _, folder = text.partition("/")
+    return text if above == "queues" and queue_in(folder) else None
 
 
 def message_in(text):

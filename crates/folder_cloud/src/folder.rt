@@ -79,13 +79,13 @@ impl<R: Files<File = File> + AllocGlobal + Drop> Folder<R> {
         Ok(())
     }
 
-    /// Failed where no store is there: one has its objects' part. Nothing is made.
+    /// Failed where no store is there: one has its objects' part. Nothing is made but what a making that was
+    /// cut off left out, since nobody makes that any more once `in-use` is there.
     pub fn must_be_there(&mut self) -> Result<(), FolderFault> {
         if !self.has_part(OBJECTS)? {
             return Err(FolderFault::Failed);
         }
-        self.is_there = true;
-        Ok(())
+        self.make_ready()
     }
 
     // Makes the folder, those above it and its parts, and flushes their names.

@@ -37,7 +37,7 @@ impl<R: Files<File = File> + AllocGlobal + Drop, K: Ticks + Drop> FolderCloud<R,
         FolderCloud::over(TimedFolder::open(rt, dir, clock))
     }
 
-    /// The cloud in the folder at a path that has a store. Nothing is made: Failed where there is none, or Memory.
+    /// The cloud in the folder at a path that has a store. Failed where there is none, and then nothing is made; or Memory.
     pub fn open_standing(rt: R, dir: &str, clock: K) -> Result<FolderCloud<R, K>, CloudFault>
         ensures named { OnOk result (1 ≤ length dir.now) }
         ensures fresh { IfOk result IsFresh }

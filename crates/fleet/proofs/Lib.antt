@@ -5,3 +5,5 @@ pub mod Opened
 pub mod Landed
 pub mod Unopened
 pub mod Keeps
+pub mod Refused
+pub mod Programs

@@ -4,3 +4,4 @@ pub mod Acts
 pub mod Course
 pub mod Right
 pub mod Kept
+pub mod Programs

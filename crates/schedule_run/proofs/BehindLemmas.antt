@@ -12,7 +12,7 @@ use Rattle.reply_text.specs.declared.reply.Reply.{Reply}
 use Rattle.reply_text.specs.declared.reply.Reply.TheVariants as reply
 use Rattle.session_facts.proofs.Lines.Books.{was_left, empty_left}
 use Rattle.session_facts.proofs.Lines.Start.{closed_at}
-use Rattle.session_facts.specs.Lines.Acknowledged.{IsKeptReply}
+use Rattle.session_facts.specs.Lines.Acknowledged.{IsKeptReply, IsLandedReply}
 use Rattle.client_work.specs.declared.work.Work.{Work}
 use Rattle.session_facts.specs.Lines.Errands.{settles}
 use Rattle.session_facts.specs.Lines.Facts.{session_at, SomeBookStands, WasLeft}
@@ -109,6 +109,10 @@ settled_keeps entries client posture = settled_is (IsKeptReply entries client po
 settled_counts : (u : CloudState) (n : ℕ) (before after : Seen) (old new : World) (r : Reply) → SettlesLine settles n (span_of before after old new) (Ok r) → LeftIsRight u r
 settled_counts u = settled_is (LeftIsRight u) (λ calls. tt) (λ k. tt)
 
+settled_lands : (lines : List Line) (u : CloudState) (client : ℕ) (posture : Posture) (n : ℕ) (before after : Seen) (old new : World) (r : Reply) → SettlesLine settles n (span_of before after old new) (Ok r)
+    → IsLandedReply lines u 0 client posture r
+settled_lands lines u client posture = settled_is (IsLandedReply lines u 0 client posture) (λ calls. tt) (λ k. tt)
+
 settled_commits : (entries : List Entry) (posture : Posture) (work : Work) (n : ℕ) (before after : Seen) (old new : World) (r : Reply) → SettlesLine settles n (span_of before after old new) (Ok r)
     → IsLeftReply entries posture work r
 settled_commits entries posture work = settled_is (IsLeftReply entries posture work) (λ calls. tt) (λ k. tt)
@@ -128,6 +132,9 @@ settles_so lines event.Settle r before after old new t told stands handled =
         ends = ends_so (length lines + 1) event.Settle before after old new r (settling_ends (length lines + 1) event.Settle before after old new (Ok r)) t told stands handled;
         kept = λ u seen.
             settled_keeps _ (standing lines 0).client (standing lines 0).posture (length lines + 1) before after old new r
+            (subst (λ z. Answers (length lines + 1) z (span_of before after old new) (Ok r)) handled.asks handled.answers);
+        landed = λ u seen.
+            settled_lands lines u (standing lines 0).client (standing lines 0).posture (length lines + 1) before after old new r
             (subst (λ z. Answers (length lines + 1) z (span_of before after old new) (Ok r)) handled.asks handled.answers);
         left_none = λ u seen.
             settled_commits _ (standing lines 0).posture (session_at new.sessions 0).work (length lines + 1) before after old new r

@@ -149,7 +149,7 @@ settling_left lines calls before old after new last still =
 all_kept : (lines : List Line) (world : World) (u : CloudState) → WorldStands lines world u → AcknowledgedStay lines u → AllKept lines (committed lines u)
 all_kept lines world u stands stay =
     subst (λ es. AllKept lines es) (committed_upto lines (length lines) u stands.by_lines.holds.cloud.upto)
-    (subst (λ ls. AreKept ls (committed ls (upto u (length lines)))) (take_whole lines (length lines) refl) (stay (length lines) (omega arith)))
+    (subst (λ ls. AreKept ls (committed ls (upto u (length lines)))) (take_whole lines (length lines) refl) (stay (length lines) (omega arith)).0)
 
 pub load_leaves : (loaded : Loaded) (trees : List DumpedTree) (before now : Seen) → IsDumpable trees → LoadDone loaded trees before now → LeavesLoaded trees before now
 load_leaves loaded trees before now dumpable done t told empty =

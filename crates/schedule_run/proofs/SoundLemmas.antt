@@ -25,6 +25,7 @@ use Rattle.world_core.specs.Settled.{SettlingLeaves, SettlingEnds}
 use Rattle.world_core.specs.Stands.{WorldStands, LeftIsRight}
 use Rattle.world_core.specs.UnsentPages.{LeavesUnsent}
 use Rattle.world_core.proofs.Acknowledged.{durable_after}
+use Rattle.world_core.proofs.Landings.{landed_after}
 use Rattle.world_core.proofs.Alone.{keeps_alone}
 use Rattle.world_core.proofs.Bounded.{few_calls}
 use Rattle.world_core.proofs.Counting.{stands_after}
@@ -155,6 +156,7 @@ went_explained before old t lines after new (further earlier line mid _ world _ 
             ends_so (length earlier + 1) line.event mid after world new line.reply
             (settling_ends (length earlier + 1) line.event mid after world new (Ok line.reply)) o.state o.told (on_book earlier world o.state o.stands) handled;
         kept = λ u seen. durable_after (length earlier + 1) line.event mid after world new (Ok line.reply) handled earlier o.state u refl o.told o.stands seen;
+        landed = λ u seen. landed_after (length earlier + 1) line.event mid after world new (Ok line.reply) handled earlier o.state u refl o.told o.stands seen;
         left_none = λ u seen. nothing_after (length earlier + 1) line.event mid after world new (Ok line.reply) handled earlier o.state u refl o.told o.stands seen;
         shows = shown (length earlier + 1) line.event mid after world new (Ok line.reply) handled;
         shows_by = shown_by (length earlier + 1) line.event mid after world new (Ok line.reply) earlier o.state refl o.told o.stands handled;

@@ -27,10 +27,11 @@ use Rattle.replay_meaning.specs.Standing.{Line, Posture, Working, Committing}
 use Rattle.reply_text.specs.declared.reply.Reply.{Reply}
 use Rattle.reply_text.specs.declared.reply.Reply.TheVariants as reply
 use Rattle.txn_buffer.specs.Noted.{Noted}
-use Rattle.session_facts.specs.Lines.Acknowledged.{IsKeptAt, IsKeptReply}
+use Rattle.session_facts.specs.Lines.Acknowledged.{IsKeptAt, IsKeptReply, IsLandedLine}
 use Rattle.session_facts.specs.Lines.Errands.{Errand, settles, sweeps}
 use Rattle.session_facts.specs.Lines.Facts.{IsPlaced, IsPlacedAt}
 use Rattle.session_facts.proofs.Lines.Acknowledged.{kept_on}
+use Rattle.session_facts.proofs.Lines.LandedCommits.{landed_grows}
 use Rattle.session_facts.proofs.Lines.Committed.{committed_same, committed_line, slice_get-append_left}
 use Rattle.session_facts.proofs.Lines.Outcome.{made_call}
 use Rattle.ckpt_policy.specs.declared.role.Role.{Role}
@@ -43,9 +44,10 @@ use Rattle.world_core.specs.Handled.{SetsWish, StepsLooked, Went, start as went_
 use Rattle.world_core.specs.Stands.{WorldStands}
 use Rattle.world_core.specs.Span.{span_of}
 use Rattle.world_core.proofs.Acknowledged.{durable_after}
+use Rattle.world_core.proofs.Landings.{landed_after}
 use Rattle.world_core.proofs.Counting.{stands_after}
 use Rattle.world_core.proofs.StandsLemmas.{no_memory}
-use Rattle.schedule_run.specs.Answered.{WentOn, start, further, IsKeptLine, AreKept, AcknowledgedStay}
+use Rattle.schedule_run.specs.Answered.{WentOn, start, further, IsKeptLine, AreKept, AreLanded, AcknowledgedStay}
 use Rattle.schedule_run.proofs.SoundLemmas.{each_more, take_whole, same_some, went_soundly}
 use Rattle.cloud_trait.proofs.EffectLemmas.{begins_same}
 
@@ -256,43 +258,74 @@ committed_upto lines n s all =
 committed_agree : (lines : List Line) (n : ℕ) (s t : CloudState) → AgreeUpto n s t → committed lines (upto t n) ≡ committed lines (upto s n)
 committed_agree lines n s t agree = committed_same lines (upto s n) (upto t n) (λ i name. agree.versions name i) agree.trace
 
+-- ---- what landed stays
+
+-- behind more rows and versions
+landed_begins : (lines : List Line) (s t : CloudState) → ((name : ObjName) → BeginsWith (s.versions name) (t.versions name)) → BeginsWith s.trace t.trace → AreLanded lines s → AreLanded lines t
+landed_begins lines s t versions trace all k line at = landed_grows (take k lines) s t versions trace line (all k line at)
+
+-- and behind the same ones
+landed_alike : (lines : List Line) (s t : CloudState) → t.versions ≡ s.versions → t.trace ≡ s.trace → AreLanded lines s → AreLanded lines t
+landed_alike lines s t v r =
+    landed_begins lines s t (λ name. begins_same (s.versions name) (t.versions name) (ap (λ (f : Versions). f name) v)) (begins_same s.trace t.trace r)
+
+landed_upto : (lines : List Line) (n : ℕ) (s : CloudState) → IsUpto n s → AreLanded lines s → AreLanded lines (upto s n)
+landed_upto lines n s all = landed_alike lines s (upto s n) (λ i name. versions_upto-all n (s.versions name) (all.versions name) i) (trace_upto-all n s.trace all.trace)
+
+landed_whole : (lines : List Line) (n : ℕ) (s : CloudState) → IsUpto n s → AreLanded lines (upto s n) → AreLanded lines s
+landed_whole lines n s all =
+    landed_alike lines (upto s n) s (sym (λ i name. versions_upto-all n (s.versions name) (all.versions name) i)) (sym (trace_upto-all n s.trace all.trace))
+
+-- what the first n lines acknowledged, in a state
+abbrev Stays : List Line → CloudState → Type 0
+Stays lines t = AreKept lines (committed lines t) × AreLanded lines t
+
+stays_agree : (lines : List Line) (n : ℕ) (s t : CloudState) → AgreeUpto n s t → Stays lines (upto s n) → Stays lines (upto t n)
+stays_agree lines n s t agree h = (
+  subst (AreKept lines) (sym (committed_agree lines n s t agree)) h.0,
+  landed_alike lines (upto s n) (upto t n) (λ i name. agree.versions name i) agree.trace h.1,
+)
+
 -- ---- lines
 
 -- where the cloud grew behind the lines
 pub stay_upto : (lines : List Line) (s t : CloudState) → ((n : ℕ) → n ≤ length lines → AgreeUpto n s t) → AcknowledgedStay lines s → AcknowledgedStay lines t
-stay_upto lines s t agree stay n within = subst (AreKept (take n lines)) (sym (committed_agree (take n lines) n s t (agree n within))) (stay n within)
+stay_upto lines s t agree stay n within = stays_agree (take n lines) n s t (agree n within) (stay n within)
 
 -- with one more line
 stay_more : (lines : List Line) (line : Line) (s t : CloudState) → All (IsPlaced s.versions) s.trace → IsUpto (length lines) s → IsUpto (length lines + 1) t
-    → HasLanded (length lines + 1) s t → IsKeptLine (committed (lines ++ line ∷ []) t) lines line → AcknowledgedStay lines s → AcknowledgedStay (lines ++ line ∷ []) t
-stay_more lines line s t placed all after landed new stay n within = on (cases_lt n (length lines + 1))
+    → HasLanded (length lines + 1) s t → IsKeptLine (committed (lines ++ line ∷ []) t) lines line → IsLandedLine lines t line → AcknowledgedStay lines s → AcknowledgedStay (lines ++ line ∷ []) t
+stay_more lines line s t placed all after landed new own stay n within = on (cases_lt n (length lines + 1))
   where
     more : List Line
     more = lines ++ line ∷ []
 
-    Stays : List Line → Type 0
-    Stays ls = AreKept ls (committed ls (upto t n))
+    old : Stays lines (upto s (length lines))
+    old = subst (λ ls. Stays ls (upto s (length lines))) (take_whole lines (length lines) refl) (stay (length lines) (omega arith))
 
-    old : AreKept lines (committed lines s)
-    old =
-        subst (AreKept lines) (committed_upto lines (length lines) s all)
-        (subst (λ ls. AreKept ls (committed ls (upto s (length lines)))) (take_whole lines (length lines) refl) (stay (length lines) (omega arith)))
+    kept : AreKept lines (committed lines s)
+    kept = subst (AreKept lines) (committed_upto lines (length lines) s all) old.0
 
-    now : AreKept more (committed more t)
-    now =
-        each_more (IsKeptLine (committed more t)) lines line
-        (λ k l at. reply_on (committed lines s) (committed more t) _ _ l.reply (committed_begins lines line (length lines + 1) s t placed all landed) (old k l at)) new
+    are_landed : AreLanded lines t
+    are_landed = landed_begins lines s t landed.versions landed.trace (landed_whole lines (length lines) s all old.1)
 
-    on : (n < length lines + 1) ⊎ (length lines + 1 ≤ n) → Stays (take n more)
+    now : Stays more t
+    now = (
+      each_more (IsKeptLine (committed more t)) lines line
+          (λ k l at. reply_on (committed lines s) (committed more t) _ _ l.reply (committed_begins lines line (length lines + 1) s t placed all landed) (kept k l at)) new,
+      each_more (λ before l. IsLandedLine before t l) lines line are_landed own,
+    )
+
+    on : (n < length lines + 1) ⊎ (length lines + 1 ≤ n) → Stays (take n more) (upto t n)
     on (inl less) =
         let front : take n more ≡ take n lines = take-append-le n lines (line ∷ []) (omega arith) in
-        subst Stays (sym front)
-        (subst (AreKept (take n lines)) (sym (committed_agree (take n lines) n s t (landed.agree n less))) (stay n (omega arith)))
+        subst (λ ls. Stays ls (upto t n)) (sym front) (stays_agree (take n lines) n s t (landed.agree n less) (stay n (omega arith)))
     on (inr last) =
         let long : length more ≡ length lines + 1 = omega (arith, length-append lines (line ∷ [])) in
         let e : n ≡ length lines + 1 = omega (arith, within, long) in
-        subst Stays (sym (take_whole more n (omega arith)))
-        (subst (AreKept more) (sym (committed_upto more n t (subst (λ m. IsUpto m t) (sym e) after))) now)
+        let upto_n : IsUpto n t = subst (λ m. IsUpto m t) (sym e) after in
+        subst (λ ls. Stays ls (upto t n)) (sym (take_whole more n (omega arith)))
+        (subst (AreKept more) (sym (committed_upto more n t upto_n)) now.0, landed_upto more n t upto_n now.1)
 
 nothing_kept : (n k : ℕ) (line : Line) → (let none : List Line = [] in slice_get (take n none) k ≡ Some line) → ⊥
 nothing_kept zero k line at = absurd (cc)
@@ -301,7 +334,7 @@ nothing_kept (suc n) k line at = absurd (cc)
 -- lines that were handled from a world on that stood for none
 pub went_stay : (before : Seen) (old : World) (t : CloudState) (lines : List Line) (after : Seen) (new : World) (u : CloudState) → WentOn before old lines after new → before.state ≡ Some t
     → WorldStands [] old t → after.state ≡ Some u → AcknowledgedStay lines u
-went_stay before old t lines after new u start told stands seen = λ n within k line at. absurd (nothing_kept n k line at)
+went_stay before old t lines after new u start told stands seen = λ n within. (λ k line at. absurd (nothing_kept n k line at), λ k line at. absurd (nothing_kept n k line at))
 went_stay before old t lines after new u (further earlier line mid _ world _ went handled) told stands seen =
     let o = went_soundly before old t earlier mid world went told stands in
     let f = stands_after (length earlier + 1) line.event mid after world new (Ok line.reply) handled earlier o.state refl o.told o.stands in
@@ -312,4 +345,5 @@ went_stay before old t lines after new u (further earlier line mid _ world _ wen
     (subst (IsUpto (length earlier + 1)) (same_some f.after u (sym f.told ∙ seen)) whole)
     (subst (HasLanded (length earlier + 1) o.state) (same_some g.0 u (sym g.1 ∙ seen)) g.2)
     (durable_after (length earlier + 1) line.event mid after world new (Ok line.reply) handled earlier o.state u refl o.told o.stands seen)
+    (landed_after (length earlier + 1) line.event mid after world new (Ok line.reply) handled earlier o.state u refl o.told o.stands seen)
     (went_stay before old t earlier mid world o.state went told stands o.told)

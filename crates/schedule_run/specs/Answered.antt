@@ -14,7 +14,7 @@ use Rattle.replay_meaning.specs.Standing.{Line, session_of, standing}
 use Rattle.replay_meaning.specs.Kinds.{KeepsKinds}
 use Rattle.replay_meaning.specs.Right.{ReportIsRight}
 use Rattle.report_types.specs.declared.report.Report.{Report}
-use Rattle.session_facts.specs.Lines.Acknowledged.{IsKeptReply}
+use Rattle.session_facts.specs.Lines.Acknowledged.{IsKeptReply, IsLandedLine}
 use Rattle.session_facts.specs.Rows.Added.{AddsTo}
 use Rattle.session_facts.specs.Lines.Facts.{session_at, WasLeft}
 use Rattle.session_facts.specs.Lines.LeftNone.{IsLeftReply}
@@ -78,7 +78,8 @@ IsKeptLine entries before line = IsKeptReply entries (standing before (session_o
 -- behind it, and the line is answered well, a work passes none over but for a spent counter or its page, and no page to whose queue a message was ever sent is found
 -- absent, or no leaf; the calls of a checkpoint are few up to it, and that of a tree names its new pieces at its end; a settling
 -- leaves nothing and comes to its end so;
--- a commit that it answers as committed is among what was committed, and of one that it answers as not committed nothing is; the two numbers of a
+-- a commit that it answers as committed is among what was committed, and landed by its own session since it began, and of one that it answers as not committed
+-- nothing is among it; the two numbers of a
 -- report count what is left then; and a read, a scan and a look-up show what their own calls served, by what the lines say of the client
 pub record IsExplained (lines : List Line) (line : Line) (span : Span) (handled : Handled (length lines + 1) line.event span (Ok line.reply)) : Type 0 where
   pub explains : EachStep StepExplains (length lines + 1) line.event span (Ok line.reply) handled
@@ -93,6 +94,7 @@ pub record IsExplained (lines : List Line) (line : Line) (span : Span) (handled 
   pub leaves : LeavesSo (length lines + 1) line.event span line.reply handled
   pub ends : (t : CloudState) → span.before.state ≡ Some t → EndsSo t (length lines + 1) line.event span line.reply handled
   pub kept : (u : CloudState) → span.after.state ≡ Some u → IsKeptLine (committed (lines ++ line ∷ []) u) lines line
+  pub landed : (u : CloudState) → span.after.state ≡ Some u → IsLandedLine lines u line
   pub left_none : (u : CloudState) → span.after.state ≡ Some u
       → IsLeftReply (committed (lines ++ line ∷ []) u) (standing lines (session_of line.event)).posture (session_at span.new.sessions (session_of line.event)).work line.reply
   pub left : (u : CloudState) → span.after.state ≡ Some u → LeftIsRight u line.reply
@@ -240,10 +242,14 @@ ActsByTheLines lines t = KeepsKinds lines (upto t (length lines)) []
 abbrev pub AreKept : List Line → List Entry → Type 0
 AreKept lines entries = (k : ℕ) (line : Line) → slice_get lines k ≡ Some line → IsKeptLine entries (take k lines) line
 
+-- and landed, by a row of its own session, made since its commit began and up to its answer, that commits it
+abbrev pub AreLanded : List Line → CloudState → Type 0
+AreLanded lines t = (k : ℕ) (line : Line) → slice_get lines k ≡ Some line → IsLandedLine (take k lines) t line
+
 -- an acknowledged commit stays committed: whatever any of the first n lines acknowledged is among what was committed up to the last of them,
--- of which a report on that line shows its tree's part
+-- of which a report on that line shows its tree's part; and the row by which it landed is among those up to there
 abbrev pub AcknowledgedStay : List Line → CloudState → Type 0
-AcknowledgedStay lines t = (n : ℕ) → n ≤ length lines → AreKept (take n lines) (committed (take n lines) (upto t n))
+AcknowledgedStay lines t = (n : ℕ) → n ≤ length lines → AreKept (take n lines) (committed (take n lines) (upto t n)) × AreLanded (take n lines) (upto t n)
 
 -- over a cloud that was empty and told its state, every report of these lines is right for the state in which they left it, every reply is sound,
 -- what was put and sent is what the lines allow, what was acknowledged stays committed, and each version and message has its row in the trace, so that

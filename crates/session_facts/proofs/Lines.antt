@@ -2,6 +2,7 @@
 pub mod Committed
 pub mod Acts
 pub mod Books
+pub mod Landed
 pub mod Outcome
 pub mod More
 pub mod Settler
@@ -9,5 +10,6 @@ pub mod Worker
 pub mod Start
 pub mod Answers
 pub mod Acknowledged
+pub mod LandedCommits
 pub mod LeftNone
 pub mod Shown

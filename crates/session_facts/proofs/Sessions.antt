@@ -25,3 +25,5 @@ pub mod AloneLeases
 pub mod Alone
 pub mod Replied
 pub mod Lists
+pub mod Landed
+pub mod LandedBegins

@@ -9,3 +9,4 @@ pub mod Explains
 pub mod Calls
 pub mod Untroubled
 pub mod Alone
+pub mod Landed

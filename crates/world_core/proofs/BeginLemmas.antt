@@ -40,7 +40,8 @@ use Rattle.session_facts.specs.Machines.Commits.Knows.{MayCommit}
 use Rattle.session_facts.proofs.Machines.Commits.Noted.{may_none}
 use Rattle.cloud_facts.proofs.Book.Names.{at_same, at_other}
 use Rattle.replay_meaning.specs.Standing.{Line, Standing, Working as WorkingOn, Committing as CommittingAll, Reading as ReadingKey, Scanning as ScanningRange, LookingUp, standing, after_own, joins}
-use Rattle.session_facts.specs.Lines.Facts.{session_at, ActsAs, WorksAs}
+use Rattle.session_facts.specs.Lines.Facts.{session_at, ActsAs, BeginsCommit, WorksAs}
+use Rattle.session_facts.proofs.Sessions.LandedBegins.{BeginsBefore, begins_before}
 use Rattle.session_facts.proofs.Lines.Acts.{IsReplyTo}
 use Rattle.session_facts.proofs.Machines.CommitRuns.Stays.{RunsFor, IsRefusal, run_begins}
 use Rattle.session_facts.proofs.Lines.More.{line_of, refused_own}
@@ -58,7 +59,7 @@ use Rattle.world_core.specs.Handled.{BeginsOp, NotesChange, DropsChanges}
 use Rattle.world_core.proofs.Joining.{may_join}
 use Rattle.world_core.proofs.Behind.{LineLeaves}
 use Rattle.world_core.proofs.Texts.{commit_is}
-use Rattle.world_core.proofs.StandsLemmas.{IsNoReport, Ready, acts_before, changed_was, quiet_line, quiet_refused, replies_to}
+use Rattle.world_core.proofs.StandsLemmas.{IsNoReport, Ready, StaysBehind, acts_before, changed_was, quiet_line, quiet_refused, replies_to}
 
 -- the reply of a line
 abbrev pub IsOk : Reply → Result Reply WorldFault → Type 0
@@ -76,6 +77,19 @@ begun_stands : (lines : List Line) (event : Event) (k : ℕ) (before after : See
 begun_stands lines event k before after old new t o r right ready c =
     begins_keeps o ready.stands.holds.book ready.stands.holds.order t (session_at old.sessions) k c.after c.does.begun right ready.stands.holds.stand
     (subst (λ a. Begins o a c.after c.does.begun) (sym (changed_was k _ old.sessions new.sessions c)) c.does.begins)
+
+-- and leaves no commit behind the put of its open head that was not there before
+begun_behind : (event : Event) (k : ℕ) (old new : World) (o : Op) (r : Reply) → (c : Changes k (BeginsOp o (Ok r)) old.sessions new.sessions) → StaysBehind k (line_of event r) c.before c.after
+begun_behind event k old new o r c behind = on (begins_before c.before c.after o c.does.begun c.does.begins)
+  where
+    never : (rule : Refusal) → reply.Refused rule ≡ reply.Begun → ⊥
+    never rule e = absurd (cc (e))
+
+    on : BeginsBefore c.before c.after c.does.begun → (c.after.work ≡ c.before.work) × (BeginsCommit k (line_of event r) → ⊥)
+    on (inl (rule, is, same)) =
+        let declines : RepliesBegun (Err (refused.Rule rule)) c.after (Ok r) = subst (λ x. RepliesBegun x c.after (Ok r)) is c.does.replies in
+        (ap (λ (a : Acting). a.work) same, λ begins. never rule (sym (refused_is r rule declines) ∙ begins.begun))
+    on (inr before) = absurd (before behind)
 
 -- how the session stands after it
 abbrev pub LeavesSession : Event → Reply → ℕ → List Line → Acting → Type 0
@@ -300,7 +314,8 @@ pub opening_begun : (lines : List Line) (k client : ℕ) (r : Reply) (before aft
     → LineLeaves (lines ++ line_of (event.Open k client) r ∷ []) new after r
 opening_begun lines k client r before after old new t is ready c =
     let left = opens k client r lines c.before c.after c.does.begun (acts_before lines (event.Open k client) k before after old new t _ ready c) c.does.begins c.does.replies in
-    quiet_line lines (event.Open k client) r k before after old new t _ ready c (begun_stands lines (event.Open k client) k before after old new t (op.Open client) r is ready c) left.0 left.1
+    quiet_line lines (event.Open k client) r k before after old new t _ ready c (begun_stands lines (event.Open k client) k before after old new t (op.Open client) r is ready c) left.0
+    (begun_behind (event.Open k client) k old new (op.Open client) r c) left.1
 
 -- .. and leaves what stands
 module _ (lines : List Line) (event : Event) (k : ℕ) (r : Reply) (before after : Seen) (old new : World) (t : CloudState) (ready : Ready lines event k (span_of before after old new) t) where
@@ -309,7 +324,8 @@ module _ (lines : List Line) (event : Event) (k : ℕ) (r : Reply) (before after
       → BeginsWith (λ home. HasInHand c.before (own home)) c.before c.after c.does.begun → LineLeaves (lines ++ line_of event r ∷ []) new after r
   in_hand_begun o own right c stands begins =
       let left = has_in_hand event k r lines own c.before c.after c.does.begun (acts_before lines event k before after old new t _ ready c) stands begins c.does.replies in
-      quiet_line lines event r k before after old new t _ ready c (begun_stands lines event k before after old new t o r right ready c) left.0 left.1
+      quiet_line lines event r k before after old new t _ ready c (begun_stands lines event k before after old new t o r right ready c) left.0
+      (begun_behind event k old new o r c) left.1
 
   -- how a session that changes has its buffer
   same_buffer : (o : Op) → (c : Changes k (BeginsOp o (Ok r)) old.sessions new.sessions) → c.before.buffer ≡ (standing lines k).buffer
@@ -348,7 +364,8 @@ pub commit_begun : (lines : List Line) (k : ℕ) (r : Reply) (before after : See
     → LineLeaves (lines ++ line_of (event.Commit k) r ∷ []) new after r
 commit_begun lines k r before after old new t ready c =
     let left = commits k r lines c.before c.after c.does.begun (acts_before lines (event.Commit k) k before after old new t _ ready c) c.does.begins c.does.replies in
-    quiet_line lines (event.Commit k) r k before after old new t _ ready c (begun_stands lines (event.Commit k) k before after old new t op.Commit r tt ready c) left.0 left.1
+    quiet_line lines (event.Commit k) r k before after old new t _ ready c (begun_stands lines (event.Commit k) k before after old new t op.Commit r tt ready c) left.0
+    (begun_behind (event.Commit k) k old new op.Commit r c) left.1
 
 pub read_begun : (lines : List Line) (k tree : ℕ) (key : List ℕ) (r : Reply) (before after : Seen) (old new : World) (t : CloudState) → IsTree tree
     → Ready lines (event.Read k tree key) k (span_of before after old new) t → Changes k (BeginsOp (op.Read tree key) (Ok r)) old.sessions new.sessions
@@ -356,7 +373,8 @@ pub read_begun : (lines : List Line) (k tree : ℕ) (key : List ℕ) (r : Reply)
 read_begun lines k tree key r before after old new t is ready c =
     let left = reads k tree key r lines c.before c.after c.does.begun (acts_before lines (event.Read k tree key) k before after old new t _ ready c) c.does.begins c.does.replies in
     quiet_line lines (event.Read k tree key) r k before after old new t _ ready c
-    (begun_stands lines (event.Read k tree key) k before after old new t (op.Read tree key) r is ready c) left.0 left.1
+    (begun_stands lines (event.Read k tree key) k before after old new t (op.Read tree key) r is ready c) left.0
+    (begun_behind (event.Read k tree key) k old new (op.Read tree key) r c) left.1
 
 pub scan_begun : (lines : List Line) (k tree : ℕ) (first last : List ℕ) (r : Reply) (before after : Seen) (old new : World) (t : CloudState) → IsTree tree
     → Ready lines (event.Scan k tree first last) k (span_of before after old new) t → Changes k (BeginsOp (op.Scan tree (bound_of first) (bound_of last)) (Ok r)) old.sessions new.sessions
@@ -364,7 +382,8 @@ pub scan_begun : (lines : List Line) (k tree : ℕ) (first last : List ℕ) (r :
 scan_begun lines k tree first last r before after old new t is ready c =
     let left = scans k tree first last r lines c.before c.after c.does.begun (acts_before lines (event.Scan k tree first last) k before after old new t _ ready c) c.does.begins c.does.replies in
     quiet_line lines (event.Scan k tree first last) r k before after old new t _ ready c
-    (begun_stands lines (event.Scan k tree first last) k before after old new t (op.Scan tree (bound_of first) (bound_of last)) r is ready c) left.0 left.1
+    (begun_stands lines (event.Scan k tree first last) k before after old new t (op.Scan tree (bound_of first) (bound_of last)) r is ready c) left.0
+    (begun_behind (event.Scan k tree first last) k old new (op.Scan tree (bound_of first) (bound_of last)) r c) left.1
 
 pub look_begun : (lines : List Line) (k tree : ℕ) (attr : List ℕ) (r : Reply) (before after : Seen) (old new : World) (t : CloudState) → IsTree tree
     → Ready lines (event.Lookup k tree attr) k (span_of before after old new) t → Changes k (BeginsOp (op.Lookup tree attr) (Ok r)) old.sessions new.sessions
@@ -372,7 +391,8 @@ pub look_begun : (lines : List Line) (k tree : ℕ) (attr : List ℕ) (r : Reply
 look_begun lines k tree attr r before after old new t is ready c =
     let left = looks k tree attr r lines c.before c.after c.does.begun (acts_before lines (event.Lookup k tree attr) k before after old new t _ ready c) c.does.begins c.does.replies in
     quiet_line lines (event.Lookup k tree attr) r k before after old new t _ ready c
-    (begun_stands lines (event.Lookup k tree attr) k before after old new t (op.Lookup tree attr) r is ready c) left.0 left.1
+    (begun_stands lines (event.Lookup k tree attr) k before after old new t (op.Lookup tree attr) r is ready c) left.0
+    (begun_behind (event.Lookup k tree attr) k old new (op.Lookup tree attr) r c) left.1
 
 -- ---- changes are noted and dropped
 
@@ -399,9 +419,11 @@ works_with w s buffer opened works = absurd (cc)
 -- another buffer of an open client
 buffer_line : (lines : List Line) (event : Event) (r : Reply) (k : ℕ) (before after : Seen) (old new : World) (t : CloudState) (Does : Acting → Acting → Type 0) (buffer : List Noted)
     → (ready : Ready lines event k (span_of before after old new) t) → (c : Changes k Does old.sessions new.sessions) → c.after ≡ record c.before { buffer = buffer } → rule_of c.before.work ≡ None
-    → MayCommit buffer → after_own event r (standing lines k) ≡ record (standing lines k) { buffer = buffer } → IsNoReport r → LineLeaves (lines ++ line_of event r ∷ []) new after r
-buffer_line lines event r k before after old new t Does buffer ready c is opened may own plain =
-    quiet_line lines event r k before after old new t Does ready c stand (subst (ActsAs c.after) (sym own) acts) plain
+    → MayCommit buffer → after_own event r (standing lines k) ≡ record (standing lines k) { buffer = buffer } → (r ≡ reply.Begun → ⊥) → IsNoReport r
+    → LineLeaves (lines ++ line_of event r ∷ []) new after r
+buffer_line lines event r k before after old new t Does buffer ready c is opened may own other plain =
+    quiet_line lines event r k before after old new t Does ready c stand (subst (ActsAs c.after) (sym own) acts)
+    (λ behind. (ap (λ (a : Acting). a.work) is, λ begins. other begins.begun)) plain
   where
     f : Sessions
     f = session_at old.sessions
@@ -440,7 +462,7 @@ notes lines event k noting r before after old new t is_place is_change own ready
         subst (λ (a : Acting). MayCommit a.buffer) (changed_was k _ old.sessions new.sessions c) (ready.stands.holds.stand.each k).buffer in
         subst P (sym is) (buffer_line lines event reply.Noted k before after old new t _ (joined noting c.before.buffer) ready c h.0 h.1
         (may_join noting c.before.buffer is_place is_change h.3 few may)
-        (own reply.Noted s ∙ ap (λ b. record s { buffer = joined noting b }) (sym had.buffer)) tt)
+        (own reply.Noted s ∙ ap (λ b. record s { buffer = joined noting b }) (sym had.buffer)) (λ q. cc (q)) tt)
     on (Err (refused.Rule rule)) h e =
         quiet_refused lines event r rule k before after old new t _ ready c (same_stands lines event k before after old new t _ ready c h.0) (refused_is r rule e) h.0
     on (Err refused.Memory) h e = absurd (cc (e))
@@ -454,7 +476,7 @@ aborts lines k r before after old new t ready c = on c.does.dropped c.does.drops
     on (Ok done) h e =
         let is : r ≡ reply.Aborted = cc in
         let P : Reply → Type 0 = λ z. LineLeaves (lines ++ line_of (event.Abort k) z ∷ []) new after z in
-        subst P (sym is) (buffer_line lines (event.Abort k) reply.Aborted k before after old new t _ [] ready c h.0 h.1 may_none refl tt)
+        subst P (sym is) (buffer_line lines (event.Abort k) reply.Aborted k before after old new t _ [] ready c h.0 h.1 may_none refl (λ q. cc (q)) tt)
     on (Err (refused.Rule rule)) h e =
         quiet_refused lines (event.Abort k) r rule k before after old new t _ ready c (same_stands lines (event.Abort k) k before after old new t _ ready c h.0) (refused_is r rule e) h.0
     on (Err refused.Memory) h e = absurd h.1

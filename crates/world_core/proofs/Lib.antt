@@ -23,6 +23,7 @@ pub mod Keeping
 pub mod Sound
 pub mod CommitReplies
 pub mod Acknowledged
+pub mod Landings
 pub mod LeftNone
 pub mod EachHeld
 pub mod Explained

@@ -26,11 +26,14 @@ use Rattle.world_audit.specs.Counts.{heads_upto, AreWaiting}
 use Rattle.cloud_facts.proofs.Book.Names.{at_same, at_other}
 use Rattle.session_facts.specs.Sessions.Audited.{audited}
 use Rattle.session_facts.specs.Sessions.Knows.{Sessions, SessionsStand}
-use Rattle.session_facts.specs.Lines.Errands.{Errand, event_for, session_for, WorksOn, AreRowsOf}
+use Rattle.session_facts.specs.Lines.Errands.{Errand, settles, sweeps, event_for, session_for, WorksOn, AreRowsOf}
 use Rattle.session_facts.proofs.Sessions.Laws.{crash_keeps}
 use Rattle.replay_meaning.specs.Standing.{Line, Standing, standing, after_line, after_own, session_of, steps}
 use Rattle.replay_meaning.specs.Right.{ReportIsRight}
-use Rattle.session_facts.specs.Lines.Facts.{session_at, ActsAs, AllAct, CloudHolds, IsFrontOf, SettlerRests, Stands, GoesOn}
+use Rattle.session_facts.specs.Lines.Facts.{session_at, ActsAs, AllAct, AllLanded, BeginsCommit, CloudHolds, IsFrontOf, IsOfCommit, SettlerRests, Stands, GoesOn}
+use Rattle.session_facts.specs.Sessions.Landed.{LandedFor}
+use Rattle.session_facts.proofs.Lines.Landed.{BeginsNoneBehind, landed_set}
+use Rattle.session_facts.proofs.Sessions.Landed.{IsBehind, if_behind}
 use Rattle.session_facts.proofs.Rows.CallKinds.{errand_goes}
 use Rattle.session_facts.proofs.Lines.Acts.{IsReplyTo, goes_as, goes_noted, ends_as}
 use Rattle.session_facts.proofs.Lines.More.{line_of, AllActWith, begins_line, begins_with, line_through, holds_same, own_line, still_line, refused_own, acts_set}
@@ -70,14 +73,18 @@ no_report_front order r h = tt
 
 -- ---- a line that is through
 
+-- a line begins no commit whose reply is another one
+pub not_begun : (event : Event) (r : Reply) (sessions : Sessions) → (r ≡ reply.Begun → ⊥) → BeginsNoneBehind (line_of event r) sessions
+not_begun event r sessions other session begins behind = other begins.begun
+
 -- where all holds within a line, each session stands as the line says, and the settler rests, it is one of the lines
 pub through : (lines : List Line) (event : Event) (r : Reply) (after : Seen) (new : World) (t : CloudState) → after.state ≡ Some t
     → CloudHolds (length lines + 1) lines (session_at new.sessions) new.audit new.blind t → AllActWith lines (line_of event r) (session_at new.sessions)
-    → SettlerRests (session_at new.sessions) → IsNoReport r → LineLeaves (lines ++ line_of event r ∷ []) new after r
-through lines event r after new t told holds acts rests plain = record {
+    → SettlerRests (session_at new.sessions) → BeginsNoneBehind (line_of event r) (session_at new.sessions) → IsNoReport r → LineLeaves (lines ++ line_of event r ∷ []) new after r
+through lines event r after new t told holds acts rests fresh plain = record {
   after = t;
   told = told;
-  stands = line_through lines (line_of event r) (session_at new.sessions) new.audit new.blind t holds acts rests (no_report_front holds.order r plain);
+  stands = line_through lines (line_of event r) (session_at new.sessions) new.audit new.blind t holds acts rests fresh (no_report_front holds.order r plain);
   right = no_report_right (lines ++ line_of event r ∷ []) t r plain;
   left = no_report_left t r plain;
 }
@@ -106,7 +113,8 @@ refuses lines event r rule before after old new t is same world told stands =
     let P : Reply → Type 0 = λ z. LineLeaves (lines ++ line_of event z ∷ []) new after z in
     subst P (sym is) (through lines event (reply.Refused rule) after new t (ap (λ (z : Seen). z.state) same ∙ told)
     (world_holds lines old new t world stands)
-    (still_line lines event (reply.Refused rule) (session_at new.sessions) (refused_own event rule) (world_acts lines old new t world stands)) (world_rests lines old new t world stands) tt)
+    (still_line lines event (reply.Refused rule) (session_at new.sessions) (refused_own event rule) (world_acts lines old new t world stands)) (world_rests lines old new t world stands)
+    (not_begun event (reply.Refused rule) (session_at new.sessions) (λ e. cc (e))) tt)
 
 pub refused_is : (r : Reply) (rule : Refusal) → (let result : Result Reply WorldFault = Ok r in result ≡ declined (refused.Rule rule)) → r ≡ reply.Refused rule
 refused_is r rule e = cc
@@ -146,21 +154,39 @@ pub acts_before : (lines : List Line) (event : Event) (number : ℕ) (before aft
 acts_before lines event number before after old new t Does ready c =
     subst (λ a. ActsAs a (standing lines number)) (changed_was number Does old.sessions new.sessions c) (ready.stands.acts number)
 
+-- where a line without a call leaves a commit behind the put of its open head, it was there before, and the line began none
+abbrev pub StaysBehind : ℕ → Line → Acting → Acting → Type 0
+StaysBehind number line a b = IsBehind b.work → (b.work ≡ a.work) × (BeginsCommit number line → ⊥)
+
 -- the session that a line leaves without a call stands as the line and its reply say
 pub quiet_line : (lines : List Line) (event : Event) (r : Reply) (number : ℕ) (before after : Seen) (old new : World) (t : CloudState) (Does : Acting → Acting → Type 0)
     → (ready : Ready lines event number (span_of before after old new) t) → (c : Changes number Does old.sessions new.sessions)
     → SessionsStand ready.stands.holds.book ready.stands.holds.order t (at number c.after (session_at old.sessions))
-    → ActsAs c.after (after_own event r (standing lines number)) → IsNoReport r → LineLeaves (lines ++ line_of event r ∷ []) new after r
-quiet_line lines event r number before after old new t Does ready c stand acts plain =
+    → ActsAs c.after (after_own event r (standing lines number)) → StaysBehind number (line_of event r) c.before c.after → IsNoReport r → LineLeaves (lines ++ line_of event r ∷ []) new after r
+quiet_line lines event r number before after old new t Does ready c stand acts stays plain =
     through lines event r after new t (ap (λ (z : Seen). z.state) ready.quiet.seen ∙ ready.told) holds
     (λ n. subst (λ a. ActsAs a (after_line n (standing lines n) (line_of event r))) (sym (same n)) (own_line lines number event r (session_at old.sessions) c.after ready.own ready.stands.acts acts n))
-    (changed_rests number Does old.sessions new.sessions ready.some c ready.stands.rests) plain
+    (changed_rests number Does old.sessions new.sessions ready.some c ready.stands.rests) fresh plain
   where
     same : (n : ℕ) → session_at new.sessions n ≡ at number c.after (session_at old.sessions) n
     same = changed_at number Does old.sessions new.sessions c
 
+    fresh : BeginsNoneBehind (line_of event r) (session_at new.sessions)
+    fresh n begins behind =
+        let asked : n ≡ number = sym (ap session_of begins.asks) ∙ ready.own in
+        let after : session_at new.sessions n ≡ c.after = same n ∙ at_same number c.after (session_at old.sessions) n asked in
+        (stays (subst (λ (a : Acting). IsBehind a.work) after behind)).1 (subst (λ (k : ℕ). BeginsCommit k (line_of event r)) asked begins)
+
+    was : LandedFor (IsOfCommit lines number) t c.before.work
+    was = subst (λ (a : Acting). LandedFor (IsOfCommit lines number) t a.work) (changed_was number Does old.sessions new.sessions c) (ready.stands.holds.landed number)
+
+    landed : AllLanded lines (at number c.after (session_at old.sessions)) t
+    landed =
+        landed_set lines number (session_at old.sessions) c.after t
+        (if_behind (IsOfCommit lines number) t c.after.work (λ behind. subst (LandedFor (IsOfCommit lines number) t) (sym (stays behind).0) was)) ready.stands.holds.landed
+
     own : CloudHolds (length lines + 1) lines (at number c.after (session_at old.sessions)) old.audit old.blind t
-    own = begins_with lines (session_at old.sessions) (at number c.after (session_at old.sessions)) old.audit old.blind t ready.stands.holds stand
+    own = begins_with lines (session_at old.sessions) (at number c.after (session_at old.sessions)) old.audit old.blind t ready.stands.holds stand landed
 
     At : Audited → Bool → Type 0
     At a b = CloudHolds (length lines + 1) lines (session_at new.sessions) a b t
@@ -179,7 +205,11 @@ quiet_refused lines event r rule number before after old new t Does ready c stan
     let P : Reply → Type 0 = λ z. LineLeaves (lines ++ line_of event z ∷ []) new after z in
     subst P (sym is) (quiet_line lines event (reply.Refused rule) number before after old new t Does ready c stand
     (subst (λ z. ActsAs c.after z) (sym (refused_own event rule (standing lines number)))
-    (subst (λ a. ActsAs a (standing lines number)) (sym same) (acts_before lines event number before after old new t Does ready c))) tt)
+    (subst (λ a. ActsAs a (standing lines number)) (sym same) (acts_before lines event number before after old new t Does ready c)))
+    (λ behind. (ap (λ (a : Acting). a.work) same, λ begins. never begins.begun)) tt)
+  where
+    never : reply.Refused rule ≡ reply.Begun → ⊥
+    never e = absurd (cc (e))
 
 -- ---- steps
 
@@ -307,10 +337,10 @@ replies_to (answer.Trouble t) left r e = on t e
 
 -- a line whose last step is answered
 step_ends : (lines : List Line) (event : Event) (who : Caller) (wish : Wish) (before after : Seen) (old new : World) (a : Answer) (r : Reply)
-    → session_of event ≡ who.session → ((s : Standing) → after_own event r s ≡ steps r s) → who.event ≡ length lines + 1 → 1 ≤ who.session
+    → session_of event ≡ who.session → ((s : Standing) → after_own event r s ≡ steps r s) → ((n : ℕ) → BeginsCommit n (line_of event r) → ⊥) → who.event ≡ length lines + 1 → 1 ≤ who.session
     → IsUnderWay lines old before → SettlerRests (session_at old.sessions) → (p : StepsLooked who wish (span_of before after old new) (Ended a)) → RepliesTo a p.session.after (Ok r)
     → LineLeaves (lines ++ line_of event r ∷ []) new after r
-step_ends lines event who wish before after old new a r own_is does number some way rests p replies =
+step_ends lines event who wish before after old new a r own_is does begins_none number some way rests p replies =
     let f : Sessions = session_at old.sessions in
     let s = stepped lines who wish before after old new (Ended a) number way p in
     let own = steps_own lines who wish before after old new (Ended a) number way p in
@@ -325,7 +355,7 @@ step_ends lines event who wish before after old new a r own_is does number some 
     own_line lines who.session event r f p.session.after own_is way.goes.acts (subst (ActsAs p.session.after) (sym (does (standing lines who.session))) mine) in
     through lines event r after new s.state s.told s.holds
     (λ n. subst (λ z. ActsAs z (after_line n (standing lines n) (line_of event r))) (sym (sessions_after lines who wish before after old new (Ended a) number way p n)) (all n))
-    (changed_rests who.session _ old.sessions new.sessions some p.session rests) is.1
+    (changed_rests who.session _ old.sessions new.sessions some p.session rests) (λ n begins behind. begins_none n begins) is.1
 
 -- ---- the lines that make steps
 
@@ -339,12 +369,19 @@ refused_step lines event r number before after old new t h told stands = decline
 pub no_memory : (r : Reply) → (let result : Result Reply WorldFault = Ok r in let fault : Result Reply WorldFault = Err Memory in result ≡ fault) → ⊥
 no_memory r e = absurd (cc)
 
+-- a line that makes steps begins no commit
+run_begins_none : (k : ℕ) (r : Reply) (n : ℕ) → BeginsCommit n (line_of (event.Run k) r) → ⊥
+run_begins_none k r n begins = let is : event.Run k ≡ event.Commit n = begins.asks in absurd (cc (is))
+
+step_begins_none : (k : ℕ) (wish : Wish) (r : Reply) (n : ℕ) → BeginsCommit n (line_of (event.Step k wish) r) → ⊥
+step_begins_none k wish r n begins = let is : event.Step k wish ≡ event.Commit n = begins.asks in absurd (cc (is))
+
 runs_to : (lines : List Line) (k n : ℕ) (r : Reply) (before after : Seen) (old new : World) (t : CloudState) → length lines + 1 ≡ n → 1 ≤ k
     → before.state ≡ Some t → LinesStand lines old t → RunsTo (record { session = k; event = n }) (span_of before after old new) (Ok r) → LineLeaves (lines ++ line_of (event.Run k) r ∷ []) new after r
 runs_to lines k n r before after old new t at some told stands run =
     let who : Caller = record { session = k; event = n } in
     let c = run.comes in
-    step_ends lines (event.Run k) who Plain c.mid after c.world new run.answer r refl (λ s. refl) (sym at) some
+    step_ends lines (event.Run k) who Plain c.mid after c.world new run.answer r refl (λ s. refl) (run_begins_none k r) (sym at) some
     (went_on lines who before old c.mid c.world (sym at) (way_begins lines before old t told stands) c.went)
     (went_rests who before old c.mid c.world some c.went stands.rests) c.steps run.replies
 
@@ -361,7 +398,7 @@ called_line : (lines : List Line) (event : Event) (who : Caller) (wish : Wish) (
 called_line lines event who wish before after old new still number some way rests p =
     let on = step_more lines who wish before after old new number way p in
     through lines event reply.Called after new on.after on.told on.goes.holds (still_line lines event reply.Called (session_at new.sessions) still on.goes.acts)
-    (changed_rests who.session _ old.sessions new.sessions some p.session rests) tt
+    (changed_rests who.session _ old.sessions new.sessions some p.session rests) (not_begun event reply.Called (session_at new.sessions) (λ e. cc (e))) tt
 
 step_to : (lines : List Line) (k n : ℕ) (wish : Wish) (r : Reply) (before after : Seen) (old new : World) (t : CloudState) (turn : Turn Answer) → length lines + 1 ≡ n → 1 ≤ k
     → before.state ≡ Some t → LinesStand lines old t → (p : StepsLooked (record { session = k; event = n }) wish (span_of before after old new) turn)
@@ -372,7 +409,7 @@ step_to lines k n wish r before after old new t More at some told stands p repli
     subst P (sym is) (called_line lines (event.Step k wish) (record { session = k; event = n }) wish before after old new (λ s. refl) (sym at) some
     (way_begins lines before old t told stands) stands.rests p)
 step_to lines k n wish r before after old new t (Ended a) at some told stands p replies =
-    step_ends lines (event.Step k wish) (record { session = k; event = n }) wish before after old new a r refl (λ s. refl) (sym at) some
+    step_ends lines (event.Step k wish) (record { session = k; event = n }) wish before after old new a r refl (λ s. refl) (step_begins_none k wish r) (sym at) some
     (way_begins lines before old t told stands) stands.rests p replies
 step_to lines k n wish r before after old new t (Stopped trouble) at some told stands p replies =
     absurd (no_stop _ p.under p.to p.session.before p.session.after trouble p.session.does)
@@ -398,7 +435,8 @@ dies lines k done r before after old new t some told stands h =
     let S : Acting → Type 0 = λ a. SessionsStand stands.holds.book stands.holds.order t (at k a (session_at old.sessions)) in
     subst P (sym is) (quiet_line lines (event.Crash k done) reply.Crashed k before after old new t _ ready h.closed
     (subst S (sym h.closed.does) (crash_keeps stands.holds.book stands.holds.order t (session_at old.sessions) k stands.holds.stand))
-    (subst (λ a. ActsAs a (after_own (event.Crash k done) reply.Crashed (standing lines k))) (sym h.closed.does) (crashed_own k done (standing lines k))) tt)
+    (subst (λ a. ActsAs a (after_own (event.Crash k done) reply.Crashed (standing lines k))) (sym h.closed.does) (crashed_own k done (standing lines k)))
+    (λ behind. absurd (subst (λ (a : Acting). IsBehind a.work) h.closed.does behind)) tt)
 
 -- closing a session that a step changed closes it
 pub closed_twice : (k : ℕ) (a : Acting) (f g h : Sessions) → ((n : ℕ) → g n ≡ at k a f n) → ((n : ℕ) → h n ≡ at k closed_session g n) → (n : ℕ) → h n ≡ at k closed_session f n
@@ -431,6 +469,7 @@ closed_holds n lines k world new t h is = subst (λ a. At a new.blind) (sym is.a
       cloud = h.cloud;
       seen = h.seen;
       reported = h.reported;
+      landed = landed_set lines k g closed_session t tt h.landed;
     }
 
 dies_done : (lines : List Line) (k n : ℕ) (r : Reply) (before after : Seen) (old new : World) (t : CloudState) → length lines + 1 ≡ n → 1 ≤ k
@@ -438,7 +477,8 @@ dies_done : (lines : List Line) (k n : ℕ) (r : Reply) (before after : Seen) (o
 dies_done lines k n r before after old new t at_n some told stands h =
     let is : r ≡ reply.Crashed = cc (h.replies) in
     let P : Reply → Type 0 = λ z. LineLeaves (lines ++ line_of (event.Crash k true) z ∷ []) new after z in
-    subst P (sym is) (through lines (event.Crash k true) reply.Crashed after new s.state s.told (closed_holds (length lines + 1) lines k h.world new s.state s.holds h.closes) acts rests tt)
+    subst P (sym is) (through lines (event.Crash k true) reply.Crashed after new s.state s.told (closed_holds (length lines + 1) lines k h.world new s.state s.holds h.closes) acts rests
+    (not_begun (event.Crash k true) reply.Crashed (session_at new.sessions) (λ e. cc (e))) tt)
   where
     who : Caller
     who = record { session = k; event = n }
@@ -546,6 +586,11 @@ settler_went errand n lines first row before old after new way start = way
 settler_went errand n lines first row before old after new way (further mid _ world _ went step) =
     settler_more errand n lines first row mid after world new (settler_went errand n lines first row before old mid world way went) step
 
+-- what the settler has in hand is no commit
+no_commit : (errand : Errand) → IsBehind (session_for errand).work → ⊥
+no_commit settles behind = behind
+no_commit (sweeps tree) behind = behind
+
 module _ (errand : Errand) (right : IsRightErrand errand) (lines : List Line) (n : ℕ) (before : Seen) (old begun : World) (t : CloudState)
     (number : n ≡ length lines + 1) (told : before.state ≡ Some t) (stands : LinesStand lines old t) (begins : Has 0 (session_for errand) old begun) where
   abbrev before_it : Sessions
@@ -565,6 +610,7 @@ module _ (errand : Errand) (right : IsRightErrand errand) (lines : List Line) (n
       own =
           begins_with lines before_it (at 0 (session_for errand) before_it) old.audit old.blind t stands.holds
           (begins_errand errand right stands.holds.book stands.holds.order t before_it 0 stands.rests stands.holds.stand)
+          (landed_set lines 0 before_it (session_for errand) t (if_behind (IsOfCommit lines 0) t (session_for errand).work (λ behind. absurd (no_commit errand behind))) stands.holds.landed)
 
   pub settler_begins : (r : Reply) → IsNoReport r → SettlerGoes errand n (lines ++ line_of (event_for errand) r ∷ []) before_it begun before
   settler_begins r plain = record {
@@ -641,7 +687,7 @@ gives_ledger lines k number role r before after old new t told stands g =
     (same_but_notes (λ s a b. CloudHolds (length lines + 1) lines (session_at s) a b t) old new g.sessions g.quiet.audit g.quiet.blind
     (begins_line lines (session_at old.sessions) old.audit old.blind t stands).holds)
     (still_line lines (event.Policy k role number) reply.Noted (session_at new.sessions) (λ s. refl) (subst (λ z. AllAct lines (session_at z)) (sym g.sessions) stands.acts))
-    (subst (λ z. SettlerRests (session_at z)) (sym g.sessions) stands.rests) tt)
+    (subst (λ z. SettlerRests (session_at z)) (sym g.sessions) stands.rests) (not_begun (event.Policy k role number) reply.Noted (session_at new.sessions) (λ e. cc (e))) tt)
 
 pub policies : (lines : List Line) (k number : ℕ) (role : Role) (r : Reply) (before after : Seen) (old new : World) (t : CloudState)
     → before.state ≡ Some t → LinesStand lines old t → Policies k role number (span_of before after old new) (Ok r) → LineLeaves (lines ++ line_of (event.Policy k role number) r ∷ []) new after r
@@ -667,7 +713,7 @@ waits lines ticks r before after old new t told stands (inl h) =
     subst P (sym is) (through lines (event.Wait ticks) reply.Waited after new w.after w.told
     (subst S (sym w.rest) (wait_holds (length lines + 1) lines (session_at new.sessions) new.audit new.blind t w.after.now _ later (world_holds lines old new t h.1 stands)))
     (still_line lines (event.Wait ticks) reply.Waited (session_at new.sessions) (λ s. refl) (world_acts lines old new t h.1 stands))
-    (world_rests lines old new t h.1 stands) tt)
+    (world_rests lines old new t h.1 stands) (not_begun (event.Wait ticks) reply.Waited (session_at new.sessions) (λ e. cc (e))) tt)
 waits lines ticks r before after old new t told stands (inr long) = declines lines (event.Wait ticks) r _ before after old new t long.declines told stands
 
 -- ---- reports
@@ -716,7 +762,8 @@ report_shown lines tree r before after world t told still stands is sees shows =
     stood : LinesStand (lines ++ line ∷ []) world t
     stood =
         line_through lines line (session_at world.sessions) world.audit world.blind t h
-        (still_line lines (event.Report tree) (reply.Report r) (session_at world.sessions) (λ s. refl) stands.acts) stands.rests front
+        (still_line lines (event.Report tree) (reply.Report r) (session_at world.sessions) (λ s. refl) stands.acts) stands.rests
+        (not_begun (event.Report tree) (reply.Report r) (session_at world.sessions) (λ e. cc (e))) front
 
 pub reports : (lines : List Line) (tree : ℕ) (r : Reply) (before after : Seen) (old new : World) (t : CloudState) → before.state ≡ Some t → LinesStand lines old t
     → Reports tree (span_of before after old new) (Ok r) → LineLeaves (lines ++ line_of (event.Report tree) r ∷ []) new after r
@@ -725,8 +772,10 @@ reports lines tree (reply.Report r) before after old new t told stands h =
     subst P (sym h.world) (report_shown lines tree r before after old t told (h.looked.stays t told) stands h.reply.0 h.reply.1 h.reply.2)
 reports lines tree (reply.Trouble trouble) before after old new t told stands h =
     through lines (event.Report tree) (reply.Trouble trouble) after new t (h.looked.stays t told) (world_holds lines old new t h.world stands)
-    (still_line lines (event.Report tree) (reply.Trouble trouble) (session_at new.sessions) (λ s. refl) (world_acts lines old new t h.world stands)) (world_rests lines old new t h.world stands) tt
+    (still_line lines (event.Report tree) (reply.Trouble trouble) (session_at new.sessions) (λ s. refl) (world_acts lines old new t h.world stands)) (world_rests lines old new t h.world stands)
+    (not_begun (event.Report tree) (reply.Trouble trouble) (session_at new.sessions) (λ e. cc (e))) tt
 reports lines tree (reply.Refused rule) before after old new t told stands h =
     through lines (event.Report tree) (reply.Refused rule) after new t (h.looked.stays t told) (world_holds lines old new t h.world stands)
-    (still_line lines (event.Report tree) (reply.Refused rule) (session_at new.sessions) (λ s. refl) (world_acts lines old new t h.world stands)) (world_rests lines old new t h.world stands) tt
+    (still_line lines (event.Report tree) (reply.Refused rule) (session_at new.sessions) (λ s. refl) (world_acts lines old new t h.world stands)) (world_rests lines old new t h.world stands)
+    (not_begun (event.Report tree) (reply.Refused rule) (session_at new.sessions) (λ e. cc (e))) tt
 reports lines tree r before after old new t told stands h = absurd h.reply

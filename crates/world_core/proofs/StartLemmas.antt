@@ -22,6 +22,7 @@ sees_or_not sessions audit blind t s = record {
     cloud = s.holds.cloud;
     seen = λ e. s.holds.seen refl;
     reported = s.holds.reported;
+    landed = s.holds.landed;
   };
   acts = s.acts;
   rests = s.rests;

@@ -20,13 +20,16 @@ use Rattle.replay_meaning.specs.Standing.{Line, standing}
 use Rattle.reply_text.specs.declared.reply.Reply.{Reply}
 use Rattle.reply_text.specs.declared.reply.Reply.TheVariants as reply
 use Rattle.txn_buffer.specs.Noted.{Noted}
-use Rattle.session_facts.specs.Lines.Facts.{session_at, ActsAs, AllAct, CloudHolds, SettlerRests, WorksAs}
+use Rattle.session_facts.specs.Lines.Facts.{session_at, ActsAs, AllAct, AllLanded, CloudHolds, IsOfCommit, SettlerRests, WorksAs}
 use Rattle.session_facts.specs.Sessions.Audited.{audited}
 use Rattle.session_facts.specs.Sessions.Knows.{Sessions, SessionsStand}
 use Rattle.session_facts.proofs.Rows.CallKinds.{HasCheckpoint, IsNoWant, IsWorkersRow, checkpoint_goes, checkpoint_ends}
 use Rattle.session_facts.proofs.Lines.More.{line_of, begins_line, holds_same}
 use Rattle.session_facts.proofs.Sessions.Lists.{session_there}
 use Rattle.session_facts.proofs.Sessions.Begins.{begins_keeps}
+use Rattle.session_facts.proofs.Sessions.Landed.{if_behind}
+use Rattle.session_facts.proofs.Sessions.LandedBegins.{working_before}
+use Rattle.session_facts.proofs.Lines.Landed.{landed_set}
 use Rattle.session_facts.proofs.Lines.Outcome.{CallLeavesUpto, work_holds, wish_holds}
 use Rattle.session_facts.proofs.Lines.Worker.{work_begins, work_ends, worker_row}
 use Rattle.world_core.specs.World.{World}
@@ -191,8 +194,15 @@ holds_begun n lines k queue seen old begun h b = record { state = h.state; told 
         begins_keeps (checkpoint_of queue) h.holds.book h.holds.order h.state f k b.session.after (Ok Working) b.right h.holds.stand
         (subst (λ a. Begins (checkpoint_of queue) a b.session.after (Ok Working)) (sym (changed_was k _ old.sessions begun.sessions b.session)) b.session.does)
 
+    -- a checkpoint is no commit
+    landed : AllLanded lines (at k b.session.after f) h.state
+    landed =
+        landed_set lines k f b.session.after h.state
+        (if_behind (IsOfCommit lines k) h.state b.session.after.work (λ behind. absurd (working_before b.session.before b.session.after (checkpoint_of queue) b.session.does behind)))
+        h.holds.landed
+
     own : CloudHolds n lines (at k b.session.after f) old.audit old.blind h.state
-    own = record { book = h.holds.book; order = h.holds.order; stand = stand; cloud = h.holds.cloud; seen = h.holds.seen; reported = h.holds.reported }
+    own = record { book = h.holds.book; order = h.holds.order; stand = stand; cloud = h.holds.cloud; seen = h.holds.seen; reported = h.holds.reported; landed = landed }
 
     At : Audited → Bool → Type 0
     At a z = CloudHolds n lines (session_at begun.sessions) a z h.state

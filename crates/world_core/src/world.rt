@@ -81,7 +81,7 @@ impl<S: SessionCalls> World<S> {
     ghost use Rattle.world_core.specs.World.{all_sessions};
     ghost use Rattle.reply_text.specs.Reply.{ReplyHasText};
     ghost use Rattle.world_core.specs.Sound.{AnswersSoundly};
-    ghost use Rattle.world_core.specs.Acknowledged.{AnswersDurably};
+    ghost use Rattle.world_core.specs.Acknowledged.{AnswersDurably, AnswersLanded};
     ghost use Rattle.world_core.specs.LeftNone.{LeavesNoCommit};
     ghost use Rattle.world_core.specs.Explained.{ExplainsSteps};
     ghost use Rattle.world_core.specs.Caused.{CausesSteps};
@@ -165,6 +165,9 @@ impl<S: SessionCalls> World<S> {
         ensures sound { AnswersSoundly n event.now
             (span_by C.seen cloud.old cloud.new self.old self.new) result }
         ensures acknowledged { AnswersDurably n event.now
+            (span_by C.seen cloud.old cloud.new self.old self.new) result }
+        // And it is this commit that landed, by its own session since it began.
+        ensures landed { AnswersLanded n event.now
             (span_by C.seen cloud.old cloud.new self.old self.new) result }
         // A commit that is answered as not committed left nothing among what was committed.
         ensures left_nothing { LeavesNoCommit n event.now

@@ -15,7 +15,9 @@ use Rattle.cloud_facts.proofs.Book.Names.{at_same, at_other}
 use Rattle.session_facts.specs.Sessions.Knows.{Sessions, SessionsStand}
 use Rattle.session_facts.proofs.Sessions.Laws.{same_sessions}
 use Rattle.replay_meaning.specs.Standing.{Line, Standing, standing, after_line, after_own, session_of}
-use Rattle.session_facts.specs.Lines.Facts.{ActsAs, AllAct, CloudHolds, IsFrontOf, SettlerRests, Stands, GoesOn}
+use Rattle.session_facts.specs.Lines.Facts.{ActsAs, AllAct, AllLanded, CloudHolds, IsFrontOf, IsOfCommit, SettlerRests, Stands, GoesOn}
+use Rattle.session_facts.specs.Sessions.Landed.{LandedFor}
+use Rattle.session_facts.proofs.Lines.Landed.{BeginsNoneBehind, landed_line}
 use Rattle.session_facts.proofs.Reports.Order.{reported_line}
 use Rattle.session_facts.proofs.Lines.Committed.{committed_line, standing_line, upto_more}
 use Rattle.session_facts.proofs.Rows.Lines.{kinds_line}
@@ -39,14 +41,15 @@ begins_line lines sessions a blind t s = record {
     };
     seen = s.holds.seen;
     reported = s.holds.reported;
+    landed = s.holds.landed;
   };
   acts = s.acts;
 }
 
 -- sessions that stand under the same book go on within the next line too
 pub begins_with : (lines : List Line) (sessions others : Sessions) (a : Audited) (blind : Bool) (t : CloudState) → (h : CloudHolds (length lines) lines sessions a blind t)
-    → SessionsStand h.book h.order t others → CloudHolds (length lines + 1) lines others a blind t
-begins_with lines sessions others a blind t h stand = record {
+    → SessionsStand h.book h.order t others → AllLanded lines others t → CloudHolds (length lines + 1) lines others a blind t
+begins_with lines sessions others a blind t h stand landed = record {
   book = h.book;
   order = h.order;
   stand = stand;
@@ -59,6 +62,7 @@ begins_with lines sessions others a blind t h stand = record {
   };
   seen = h.seen;
   reported = h.reported;
+  landed = landed;
 }
 
 -- how all sessions stand with one line more
@@ -67,8 +71,8 @@ AllActWith lines line sessions = (n : ℕ) → ActsAs (sessions n) (after_line n
 
 -- a line that is through is one of the lines
 pub line_through : (lines : List Line) (line : Line) (sessions : Sessions) (a : Audited) (blind : Bool) (t : CloudState) → (h : CloudHolds (length lines + 1) lines sessions a blind t)
-    → AllActWith lines line sessions → SettlerRests sessions → IsFrontOf h.order line.reply → Stands (lines ++ line ∷ []) sessions a blind t
-line_through lines line sessions a blind t h acts rests front = record {
+    → AllActWith lines line sessions → SettlerRests sessions → BeginsNoneBehind line sessions → IsFrontOf h.order line.reply → Stands (lines ++ line ∷ []) sessions a blind t
+line_through lines line sessions a blind t h acts rests fresh front = record {
   holds = record {
     book = h.book;
     order = h.order;
@@ -82,6 +86,7 @@ line_through lines line sessions a blind t h acts rests front = record {
     };
     seen = h.seen;
     reported = reported_line lines line h.order h.reported front;
+    landed = landed_line lines line sessions t h.cloud.upto.trace fresh h.landed;
   };
   acts = λ n. subst (λ z. ActsAs (sessions n) z) (sym (standing_line lines line n)) (acts n);
   rests = rests;
@@ -97,6 +102,7 @@ holds_same n lines f g a blind t same h = record {
   cloud = h.cloud;
   seen = h.seen;
   reported = h.reported;
+  landed = λ k. subst (λ (x : Acting). LandedFor (IsOfCommit lines k) t x.work) (sym (same k)) (h.landed k);
 }
 
 -- ---- how sessions stand

@@ -7,7 +7,9 @@ use Rattle.cloud_facts.specs.Calls.Looks.{audit_of}
 use Rattle.cloud_trait.specs.declared.state.Landing.{Landing}
 use Rattle.cloud_trait.specs.Ask.{effect}
 use Rattle.cloud_trait.specs.Weather.{counted, Makes, Leaves}
-use Rattle.cloud_trait.proofs.RowLemmas.{row_by, leaves_upto}
+use Rattle.cloud_trait.proofs.EffectLemmas.{grown_itself}
+use Rattle.cloud_trait.proofs.RowLemmas.{row_by, leaves_grown, leaves_upto}
+use Rattle.cloud_trait.specs.Growth.{HasGrown}
 use Rattle.history.specs.Audited.{Audited}
 use Rattle.session_facts.specs.Rows.Asks.{MayAsk}
 use Rattle.page_cache.specs.Cache.{Cache}
@@ -35,7 +37,10 @@ use Rattle.session_facts.proofs.Sessions.Led.{sound_of}
 use Rattle.session_facts.proofs.Sessions.Outcome.{session_keeps}
 use Rattle.session_facts.proofs.Sessions.HeadPuts.{head_put}
 use Rattle.session_facts.proofs.Sessions.Laws.{rest_keeps, decodes}
-use Rattle.session_facts.specs.Lines.Facts.{IsPlaced, WorksAs, CloudHolds}
+use Rattle.session_facts.specs.Lines.Facts.{AllLanded, IsOfCommit, IsPlaced, WorksAs, CloudHolds}
+use Rattle.session_facts.specs.Sessions.Landed.{LandedFor}
+use Rattle.session_facts.proofs.Lines.Landed.{landed_set, own_row}
+use Rattle.session_facts.proofs.Sessions.Landed.{for_grows, landed_on}
 use Rattle.session_facts.proofs.Rows.CallKinds.{HasCheckpoint, IsWorkersRow, checkpoint_asks, checkpoint_none, errand_none, errand_asks, call_kind, call_opens}
 use Rattle.session_facts.specs.Lines.Errands.{Errand, WorksOn, AreRowsOf}
 use Rattle.session_facts.proofs.Rows.Committed.{CommitsAs, stood_on, ask_commits, audited_commits}
@@ -149,8 +154,9 @@ pub record CallLeavesUpto (n : ℕ) (lines : List Line) (after : Seen) (sessions
 abbrev pub CallLeaves : List Line → Seen → Sessions → Audited → Bool → Type 0
 CallLeaves lines after sessions b blind = CallLeavesUpto (length lines + 1) lines after sessions b blind
 
--- the call in hand commits what the lines say, and its row is of a kind that they allow
+-- the call in hand commits what the lines say, and its row is of a kind that they allow, and of the commit where that is at work
 pub record IsByLines (lines : List Line) (who : Caller) (w : Work) (ask : Ask) : Type 0 where
+  pub owns : (changes : List Noted) → committing_of w ≡ Some changes → (place : ℕ) (row : Landing) → row.who ≡ who → IsOfCommit lines who.session changes place row
   pub commits : CommitsAs lines who w ask
   pub kind : (row : Landing) → row.who ≡ who → MayAsk lines row ask
 
@@ -222,6 +228,14 @@ call_leaves n lines who before after x sessions new turn a b blind blind_after e
     seen : blind_after ≡ false → b ≡ audit_of goes.book_after goes.order_after
     seen e = sees.audit e l.after l.told ∙ ap (λ z. audited (newest x) (newest l.after) w z) (h.seen (sees.saw e)) ∙ goes.noted
 
+    mine : LandedFor (IsOfCommit lines who.session) l.after new.work
+    mine =
+        landed_on (IsOfCommit lines who.session) who before after x l.after told l.told (store_of h.book h.order x) x.now (sessions who.session).cache (h.stand.parts who.session) w new.work turn
+        (h.stand.each who.session).work (by call.ask call.hand).owns (h.landed who.session) p.work
+
+    grown : HasGrown x l.after
+    grown = leaves_grown who call.ask call.answer before.counts after.counts x after.state l
+
     holds : CloudHolds n lines (at who.session new sessions) b blind_after l.after
     holds = record {
       book = goes.book_after;
@@ -236,6 +250,7 @@ call_leaves n lines who before after x sessions new turn a b blind blind_after e
       };
       seen = seen;
       reported = reported_more lines h.order goes.order_after goes.order_goes_on h.reported;
+      landed = landed_set lines who.session sessions new l.after mine (λ k. for_grows (IsOfCommit lines k) x l.after (sessions k).work grown (h.landed k));
     }
 
 -- a call of a session within a line
@@ -254,6 +269,7 @@ call_holds lines who before after x sessions new turn a b blind blind_after even
 
     by : (ask : Ask) → ask_of_work w ≡ Some ask → IsByLines lines who w ask
     by ask hand = record {
+      owns = own_row lines who w event acts;
       commits = ask_commits lines who w ask (stood_on lines who w event acts)
           (λ client bytes one two is. head_put (store_of h.book h.order x) x.now (sessions who.session).cache w (h.stand.parts who.session) (h.stand.each who.session).work
           sound client bytes one two (hand ∙ ap (λ a. Some a) is));
@@ -282,6 +298,7 @@ errand_holds errand n lines who before after x sessions new turn a b blind blind
 
     by : (ask : Ask) → ask_of_work w ≡ Some ask → IsByLines lines who w ask
     by ask hand = record {
+      owns = λ changes e place row is. absurd (commits_none changes e);
       commits = ask_commits lines who w ask (λ changes e. absurd (commits_none changes e))
           (λ client bytes one two is. head_put (store_of h.book h.order x) x.now (sessions who.session).cache w (h.stand.parts who.session) (h.stand.each who.session).work
           sound client bytes one two (hand ∙ ap (λ a. Some a) is));
@@ -310,6 +327,7 @@ work_holds n lines who home before after x sessions new turn a b blind blind_aft
 
     by : (ask : Ask) → ask_of_work w ≡ Some ask → IsByLines lines who w ask
     by ask hand = record {
+      owns = λ changes e place row is. absurd (commits_none changes e);
       commits = ask_commits lines who w ask (λ changes e. absurd (commits_none changes e))
           (λ client bytes one two is. head_put (store_of h.book h.order x) x.now (sessions who.session).cache w (h.stand.parts who.session) (h.stand.each who.session).work
           sound client bytes one two (hand ∙ ap (λ a. Some a) is));
@@ -317,6 +335,10 @@ work_holds n lines who home before after x sessions new turn a b blind blind_aft
     }
 
 -- ---- what is no call
+
+-- rows that stay
+landed_still : (lines : List Line) (sessions : Sessions) (s t : CloudState) → HasGrown s t → AllLanded lines sessions s → AllLanded lines sessions t
+landed_still lines sessions s t grown all k = for_grows (IsOfCommit lines k) s t (sessions k).work grown (all k)
 
 -- a wish that is set leaves all that holds
 pub wish_holds : (n : ℕ) (lines : List Line) (sessions : Sessions) (a : Audited) (blind : Bool) (x : CloudState) (wish : Wish) → CloudHolds n lines sessions a blind x
@@ -334,6 +356,7 @@ wish_holds n lines sessions a blind x wish h = record {
   };
   seen = h.seen;
   reported = h.reported;
+  landed = landed_still lines sessions x (record x { wish = wish }) (grown_itself x (record x { wish = wish }) refl refl refl refl) h.landed;
 }
 
 -- and so does a wait
@@ -352,4 +375,7 @@ wait_holds n lines sessions a blind x now waits later h = record {
   };
   seen = h.seen;
   reported = h.reported;
+  landed =
+      let still : HasGrown x (record x { waits = waits }) = grown_itself x (record x { waits = waits }) refl refl refl refl in
+      landed_still lines sessions x (record x { now = now; waits = waits }) (record { versions = still.versions; messages = still.messages; trace = still.trace; later = later }) h.landed;
 }

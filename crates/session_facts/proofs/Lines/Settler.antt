@@ -1,5 +1,5 @@
 -- A line of session 0 is one of the lines from its begin on: it changes no session's standing, and the rows of session 0 are told by it.
-use Rattle.std.proofs.Common.{◌≡◌, ◌+◌, suc, List, [], ◌∷◌, ◌++◌, length, refl, sym, ap, subst, ◌∙◌, Bool, arith, length-append}
+use Rattle.std.proofs.Common.{◌≡◌, ◌+◌, ℕ, suc, List, [], ◌∷◌, ◌++◌, length, refl, sym, ap, subst, ◌∙◌, Bool, arith, length-append}
 use Rattle.cloud_facts.specs.Words.{Entry, CloudState, Caller}
 use Rattle.cloud_trait.proofs.StateLemmas.{slice_get-push}
 use Rattle.event_text.specs.declared.event.Event.TheVariants as event
@@ -10,9 +10,15 @@ use Rattle.replay_meaning.specs.Standing.{Line, Standing, after_own}
 use Rattle.session_facts.specs.Lines.Facts.{ActsAs, AllAct, CloudHolds, IsFrontOf, SettlerRests, Stands}
 use Rattle.session_facts.specs.Lines.Errands.{Errand, settles, sweeps, event_for, AreRowsOf}
 use Rattle.session_facts.proofs.Lines.Committed.{committed_line, standing_line}
+use Rattle.session_facts.proofs.Lines.Landed.{landed_line}
 use Rattle.session_facts.proofs.Lines.More.{line_of, still_line}
 use Rattle.session_facts.proofs.Reports.Order.{reported_line}
 use Rattle.session_facts.proofs.Rows.Lines.{kinds_line}
+
+-- the line begins no commit
+begins_none : (errand : Errand) (n : ℕ) → event_for errand ≡ event.Commit n → ⊥
+begins_none settles n e = absurd (cc (e))
+begins_none (sweeps tree) n e = absurd (cc (e))
 
 -- what holds within it holds of it too, whatever its reply, where that is no report
 pub errand_begins : (errand : Errand) (lines : List Line) (r : Reply) (sessions : Sessions) (a : Audited) (blind : Bool) (t : CloudState) → ((order : List Entry) → IsFrontOf order r)
@@ -30,6 +36,7 @@ errand_begins errand lines r sessions a blind t front h = record {
   };
   seen = h.seen;
   reported = reported_line lines (line_of (event_for errand) r) h.order h.reported (front h.order);
+  landed = landed_line lines (line_of (event_for errand) r) sessions t h.cloud.upto.trace (λ n begins behind. begins_none errand n begins.asks) h.landed;
 }
 
 -- the line changes nothing of how a session stands

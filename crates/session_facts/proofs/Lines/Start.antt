@@ -31,6 +31,7 @@ nothing_stands_yet count t empty = record {
     cloud = record { placed = empty_placed t empty; upto = empty_upto t empty; committed = sym (empty_committed [] t empty); kinds = empty_kinds [] t empty; once = empty_once t empty };
     seen = λ e. refl;
     reported = λ k line at. absurd (cc);
+    landed = λ n. tt;
   });
   acts = λ n. subst (λ (a : Acting). ActsAs a unnamed) (sym (closed_at count n)) (record { buffer = refl; work = refl });
   rests = closed_at count 0;

@@ -10,6 +10,7 @@ use Rattle.replay_meaning.specs.Standing.{Line}
 use Rattle.session_facts.specs.Lines.Facts.{ActsAs, AllAct, CloudHolds, IsFrontOf, SettlerRests, Stands}
 use Rattle.session_facts.proofs.Rows.CallKinds.{IsWorkersRow}
 use Rattle.session_facts.proofs.Lines.Committed.{committed_line, standing_line}
+use Rattle.session_facts.proofs.Lines.Landed.{landed_line}
 use Rattle.session_facts.proofs.Lines.More.{line_of, still_line}
 use Rattle.session_facts.proofs.Reports.Order.{reported_line}
 use Rattle.session_facts.proofs.Rows.Lines.{kinds_line}
@@ -30,6 +31,7 @@ work_begins lines k r sessions a blind t front h = record {
   };
   seen = h.seen;
   reported = reported_line lines (line_of (event.Work k) r) h.order h.reported (front h.order);
+  landed = landed_line lines (line_of (event.Work k) r) sessions t h.cloud.upto.trace (λ n begins behind. let is : event.Work k ≡ event.Commit n = begins.asks in absurd (cc (is))) h.landed;
 }
 
 -- and it is through with its last call

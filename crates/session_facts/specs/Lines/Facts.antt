@@ -6,6 +6,7 @@ use Rattle.cloud_trait.specs.Upto.{IsUpto}
 use Rattle.cloud_trait.specs.declared.state.Landing.{Landing}
 use Rattle.cloud_trait.specs.declared.state.Site.{Site}
 use Rattle.cloud_trait.specs.declared.state.Site.TheVariants.{Object, Queue}
+use Rattle.event_text.specs.declared.event.Event.TheVariants as event
 use Rattle.history.specs.Fold.{of_tree}
 use Rattle.history.specs.Audited.{Audited}
 use Rattle.reply_text.specs.declared.reply.Reply.{Reply}
@@ -13,7 +14,7 @@ use Rattle.reply_text.specs.declared.reply.Reply.TheVariants as reply
 use Rattle.client_work.specs.declared.work.Work.{Work}
 use Rattle.client_work.specs.declared.work.Work.TheVariants as work
 use Rattle.client_work.specs.Session.{Acting, closed_session}
-use Rattle.replay_meaning.specs.Standing.{Line, Closed, Idle, Broken, Working, Opening, Closing, Renewing, Committing, Reading as ReadingKey, Scanning as ScanningRange, LookingUp, Paging as PagingPage, Folding as FoldingTree, Standing, standing}
+use Rattle.replay_meaning.specs.Standing.{Line, Closed, Idle, Broken, Working, Opening, Closing, Renewing, Committing, Reading as ReadingKey, Scanning as ScanningRange, LookingUp, Paging as PagingPage, Folding as FoldingTree, Standing, standing, standing_of_row}
 use Rattle.replay_meaning.specs.Committed.{Versions, committed}
 use Rattle.replay_meaning.specs.Kinds.{IsOfKind, OpensOnce}
 use Rattle.tree_walk.specs.Walk.{sought}
@@ -21,6 +22,8 @@ use Rattle.commit_run.specs.Run.{home_of}
 use Rattle.session_facts.specs.Lines.Running.{IsOpening, IsSettledHead, IsRunning, IsOfTree}
 use Rattle.cloud_facts.specs.Calls.Looks.{audit_of}
 use Rattle.session_facts.specs.Sessions.Knows.{Sessions, SessionsStand}
+use Rattle.session_facts.specs.Sessions.Landed.{LandedFor}
+use Rattle.txn_buffer.specs.Noted.{Noted}
 use Rattle.cloud_facts.specs.Book.Records.{entries_of}
 
 -- ---- the sessions of a list
@@ -86,10 +89,31 @@ pub record ActsAs (session : Acting) (s : Standing) : Type 0 where
 abbrev pub AllAct : List Line → Sessions → Type 0
 AllAct lines sessions = (session : ℕ) → ActsAs (sessions session) (standing lines session)
 
+-- ---- what a session landed since its commit began
+
+-- the line began a commit of the session
+pub record BeginsCommit (session : ℕ) (line : Line) : Type 0 where
+  pub asks : line.event ≡ event.Commit session
+  pub begun : line.reply ≡ reply.Begun
+
+-- from an event's line on none of these lines began a commit of the session: so what it did at that event is of its newest one
+abbrev pub BeganBefore : List Line → ℕ → ℕ → Type 0
+BeganBefore lines session number = (k : ℕ) (line : Line) → slice_get lines k ≡ Some line → number ≤ k + 1 → BeginsCommit session line → ⊥
+
+-- a row of the session's commit of these changes: it landed by the session's own call since its newest commit began, and the session stood at work on that
+pub record IsOfCommit (lines : List Line) (session : ℕ) (changes : List Noted) (place : ℕ) (row : Landing) : Type 0 where
+  pub own : row.who.session ≡ session
+  pub since : BeganBefore lines session row.who.event
+  pub stood : (standing_of_row lines row).posture ≡ Working (Committing changes)
+
+-- each commit at work whose head's put was answered landed by such a row
+abbrev pub AllLanded : List Line → Sessions → CloudState → Type 0
+AllLanded lines sessions t = (session : ℕ) → LandedFor (IsOfCommit lines session) t (sessions session).work
+
 -- ---- what holds of sessions, an audit and a cloud after lines
 
 -- the cloud stands under a book, with an order, and so do all sessions; the audit has both where no look failed; and the order goes on from
--- those that were reported. What landed did so up to event n
+-- those that were reported, and each commit that landed did so by its own session. What landed did so up to event n
 pub record CloudHolds (n : ℕ) (lines : List Line) (sessions : Sessions) (audit : Audited) (blind : Bool) (t : CloudState) : Type 0 where
   pub book : Book
   pub order : List Entry
@@ -97,6 +121,7 @@ pub record CloudHolds (n : ℕ) (lines : List Line) (sessions : Sessions) (audit
   pub cloud : CloudStands n lines book t
   pub seen : blind ≡ false → audit ≡ audit_of book order
   pub reported : Reported lines order
+  pub landed : AllLanded lines sessions t
 
 -- the settler, which is session 0, is at work within its own line alone
 abbrev pub SettlerRests : Sessions → Type 0

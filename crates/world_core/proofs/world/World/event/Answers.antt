@@ -16,6 +16,7 @@ use Rattle.world_core.proofs.Spared.{spares_writer}
 use Rattle.world_core.proofs.Swept.{sweep_leaves}
 use Rattle.world_core.proofs.Tagged.{shows_tagged}
 use Rattle.world_core.proofs.Acknowledged.{durable_after}
+use Rattle.world_core.proofs.Landings.{landed_after}
 use Rattle.world_core.proofs.LeftNone.{nothing_after}
 use Rattle.world_core.proofs.LeftShort.{left_short}
 use Rattle.world_core.proofs.world.World.event.Goals as goal
@@ -28,6 +29,9 @@ returns-clause-sound g c = sound_after _ _ _ _ _ _ _ c.handle.ensures.handled
 
 pub returns-clause-acknowledged : goal.returns-clause-acknowledged
 returns-clause-acknowledged g c = durable_after _ _ _ _ _ _ _ c.handle.ensures.handled
+
+pub returns-clause-landed : goal.returns-clause-landed
+returns-clause-landed g c = landed_after _ _ _ _ _ _ _ c.handle.ensures.handled
 
 pub returns-clause-explained : goal.returns-clause-explained
 returns-clause-explained g c = explained _ _ _ _ _ _ _

@@ -66,3 +66,6 @@ pub mod ShownByLines
 pub mod LookedUp
 pub mod Tagged
 pub mod Swept
+pub mod AllCalls
+pub mod LastCalls
+pub mod Tells

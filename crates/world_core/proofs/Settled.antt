@@ -42,6 +42,7 @@ use Rattle.session_facts.specs.Settling.Runs.{TreesRun, PagesRun, RecoveriesRun}
 use Rattle.session_facts.specs.Settling.Story.{Moment}
 use Rattle.settle_run.specs.Settling.{Settling, Step, passed, new_settling, settle_ask}
 use Rattle.settle_run.specs.declared.settled.Settled.{Settled as Answered}
+use Rattle.world_core.proofs.AllCalls.{same_calls}
 use Rattle.world_core.proofs.Calm.{errand_well}
 use Rattle.world_core.proofs.Keeping.{keeps_book}
 use Rattle.world_core.specs.Calm.{StepIsCalm, SettlesWell, work_at}
@@ -129,10 +130,6 @@ module _ (Holds : StepFact) (B : Settling → Moment → Type 0) (E : Settling �
       way = of_session B P settling_session (session_at begun.sessions 0) t (sym begun_session)
           (begins_on B E P hands stands.book stands.order t (session_at old.sessions) stands.rests stands.stand at_start);
     }
-
-    -- the answer counts the calls
-    same_calls : (calls : ℕ) (s : Answered) → (let r : Result Reply WorldFault = Ok (reply.Settled calls) in r ≡ Ok (reply.Settled s.calls)) → s.calls ≡ calls
-    same_calls calls s e = cc (e)
 
     no_trouble : (calls : ℕ) (t : Trouble) → (let r : Result Reply WorldFault = Ok (reply.Settled calls) in r ≡ unsettled_reply t) → ⊥
     no_trouble calls trouble.Memory e = absurd (cc (e))

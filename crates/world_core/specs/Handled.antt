@@ -534,7 +534,7 @@ pub record DiesDone (who : Caller) (span : Span) (result : Result Reply WorldFau
 
 -- where it has no call in hand it dies at once
 pub record DiesIdle (number : ℕ) (span : Span) (result : Result Reply WorldFault) : Type 0 where
-  pub idle : IsNotWorking number span.old.sessions
+  pub rests : IsNotWorking number span.old.sessions
   pub dies : Dies number span result
 
 -- or memory ran out beside that call

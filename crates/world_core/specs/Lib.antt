@@ -21,6 +21,7 @@ pub mod Added
 pub mod Opened
 pub mod World
 pub mod Span
+pub mod Tells
 pub mod Writers
 pub mod Metered
 pub mod Passed

@@ -99,6 +99,7 @@ impl<S: SessionCalls> World<S> {
     ghost use Rattle.world_core.specs.Spared.{SparesWriter};
     ghost use Rattle.world_core.specs.Settled.{SettlingEnds, SettlingIsRight, SettlingLeaves};
     ghost use Rattle.world_core.specs.Swept.{SweepLeaves};
+    ghost use Rattle.world_core.specs.Tells.{TellsSo};
     ghost use Rattle.world_core.specs.Stands.{KeepsABook, WorldStands, StandsOn};
     ghost use Rattle.world_core.specs.Sessions.{Changes, IsNotWorking, IsAtWork};
     ghost use Rattle.world_core.specs.Handled.{BeginsBook, BeginsCheckpoint, IsGiven, ClearsNotes, FailsAt, IsOpen, KeepsNotes, MakesOne, Policies, WorksOff, WorksShort, WorksThrough, Handled, Answers, Does, BeginsOp, NotesChange, DropsChanges, MakesStep, ComesTo, Runs, Has, Crashes, CrashesDone, StopsShort, Reports, BreaksOff, LeavesReplied};
@@ -161,6 +162,9 @@ impl<S: SessionCalls> World<S> {
             (span_by C.seen cloud.old cloud.new self.old self.new) result }
         ensures text { IfOk result ReplyHasText }
         ensures stands { StandsOn n event.now
+            (span_by C.seen cloud.old cloud.new self.old self.new) result }
+        // What the reply says is so, by the calls that the line made and by what its session is left with.
+        ensures tells { TellsSo n event.now
             (span_by C.seen cloud.old cloud.new self.old self.new) result }
         ensures sound { AnswersSoundly n event.now
             (span_by C.seen cloud.old cloud.new self.old self.new) result }

@@ -19,10 +19,14 @@ use Rattle.world_core.proofs.Acknowledged.{durable_after}
 use Rattle.world_core.proofs.Landings.{landed_after}
 use Rattle.world_core.proofs.LeftNone.{nothing_after}
 use Rattle.world_core.proofs.LeftShort.{left_short}
+use Rattle.world_core.proofs.Tells.{tells_so}
 use Rattle.world_core.proofs.world.World.event.Goals as goal
 
 pub returns-clause-stands : goal.returns-clause-stands
 returns-clause-stands g c = stands_after _ _ _ _ _ _ _ c.handle.ensures.handled
+
+pub returns-clause-tells : goal.returns-clause-tells
+returns-clause-tells g c = tells_so _ _ _ _ _ _ _ c.handle.ensures.handled
 
 pub returns-clause-sound : goal.returns-clause-sound
 returns-clause-sound g c = sound_after _ _ _ _ _ _ _ c.handle.ensures.handled

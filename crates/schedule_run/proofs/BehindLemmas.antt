@@ -141,6 +141,7 @@ settles_so lines event.Settle r before after old new t told stands handled =
             (subst (λ z. Answers (length lines + 1) z (span_of before after old new) (Ok r)) handled.asks handled.answers);
         shows = shown (length lines + 1) event.Settle before after old new (Ok r) handled;
         shows_by = settled_by lines (length lines + 1) handled.asked before after old new (Ok r) handled.asks handled.answers;
+        tells_by = tt;
         left = λ u seen.
             settled_counts u (length lines + 1) before after old new r (subst (λ z. Answers (length lines + 1) z (span_of before after old new) (Ok r)) handled.asks handled.answers);
       },

@@ -39,7 +39,7 @@ use Rattle.schedule_run.specs.Answered.{IsNew, WentOn, start, further, AreAnswer
 use Rattle.schedule_run.proofs.BehindLemmas.{lines_left, lines_settled}
 use Rattle.schedule_run.proofs.SoundLemmas.{get_before, take_whole, went_soundly, went_explained, went_metered}
 use Rattle.schedule_run.proofs.SeeingLemmas.{went_comes}
-use Rattle.schedule_run.proofs.CausedLemmas.{lines_caused}
+use Rattle.schedule_run.proofs.CausedLemmas.{lines_caused, lines_told}
 use Rattle.schedule_run.proofs.OnceLemmas.{went_adds, lines_once, unanswered_short, unanswered_kinds, unanswered_once}
 use Rattle.schedule_run.proofs.StayLemmas.{stay_upto, went_stay}
 use Rattle.schedule_run.specs.Written.{reply_line, replies_from, replies, bad_line}
@@ -239,6 +239,7 @@ answered texts w v s t first world fresh h = record {
   kinds = λ x told. went_adds s first x told fresh h.lines t world h.went;
   once = lines_once h.lines s t first world h.went fresh;
   caused = lines_caused s first h.lines t world h.went;
+  told = lines_told s first h.lines t world h.went;
 }
 
 pub at_end : (text rest : List ℕ) (n : ℕ) (w v : Written) (s t : Seen) (first world : World) → IsNew false first
@@ -343,6 +344,7 @@ with_answer {text} {rest} {behind} {line} {n} {m} {w} {v} {s} {t} {z} {first} {o
       kinds = λ x told. went_adds s first x told met.fresh (met.is.handles.lines ++ one ∷ []) z new went;
       once = lines_once (met.is.handles.lines ++ one ∷ []) s z first new went met.fresh;
       caused = lines_caused s first (met.is.handles.lines ++ one ∷ []) z new went;
+      told = lines_told s first (met.is.handles.lines ++ one ∷ []) z new went;
     }
 
 -- the run ends behind a text that has a reply

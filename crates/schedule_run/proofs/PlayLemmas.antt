@@ -24,7 +24,7 @@ use Rattle.schedule_run.specs.Answered.{IsNew, WentOn, start, further, IsNoRepor
 use Rattle.schedule_run.specs.Play.{IsFresh, IsNext, RanOut, uncounted, no_answer, Takes, answered_run, stops_run, RunsWhole, Played, StoppedAt, stopped_before, stopped_within}
 use Rattle.schedule_run.proofs.BehindLemmas.{lines_left, lines_settled}
 use Rattle.schedule_run.proofs.GoingLemmas.{stands_more, fresh_stands, replies_sound, lines_explained, lines_metered, reports_come, report_same, acts_upto, acknowledged_stay, keeps_now}
-use Rattle.schedule_run.proofs.CausedLemmas.{lines_caused}
+use Rattle.schedule_run.proofs.CausedLemmas.{lines_caused, lines_told}
 use Rattle.schedule_run.proofs.OnceLemmas.{went_adds, lines_once, unanswered_short, unanswered_kinds, unanswered_once}
 use Rattle.schedule_run.proofs.SeeingLemmas.{unasked_more}
 use Rattle.schedule_run.proofs.StayLemmas.{stay_upto}
@@ -46,6 +46,7 @@ played_nothing {blind} s play fresh = record {
   kinds = λ t told. went_adds s play.world t told fresh.world [] s play.world start;
   once = lines_once [] s s play.world play.world start fresh.world;
   caused = tt;
+  told = tt;
   settled = λ t told runs. tt;
   left = lines_left [] s s play.world play.world start fresh.world;
   stands = stands;
@@ -80,6 +81,7 @@ played_more {blind} lines event reply s t z old new p none n =
       kinds = λ x told. went_adds s p.first x told p.fresh (lines ++ line ∷ []) z new.world went;
       once = lines_once (lines ++ line ∷ []) s z p.first new.world went p.fresh;
       caused = lines_caused s p.first (lines ++ line ∷ []) z new.world went;
+      told = lines_told s p.first (lines ++ line ∷ []) z new.world went;
       settled = lines_settled (lines ++ line ∷ []) s z p.first new.world went p.fresh;
       left = lines_left (lines ++ line ∷ []) s z p.first new.world went p.fresh;
       stands = stands at;
@@ -138,6 +140,7 @@ stopped_at lines event s t z old new p (no_answer handled grows) =
         kinds = p.kinds;
         once = p.once;
         caused = p.caused;
+        told = p.told;
       };
       last = new.world;
       handled = own at;

@@ -46,6 +46,7 @@ use Rattle.world_core.proofs.Shown.{shown}
 use Rattle.world_core.proofs.ShownByLines.{shown_by}
 use Rattle.world_core.proofs.Settled.{settling_leaves, settling_ends}
 use Rattle.world_core.proofs.Sound.{sound_after}
+use Rattle.world_core.proofs.Tells.{tells_by}
 use Rattle.schedule_run.specs.Answered.{WentOn, start, further, LeavesSo, EndsSo, AreExplained, GoAlone, GoThrough, AreMetered, IsSoundLine, RepliesAreSound}
 
 -- ---- places of lines
@@ -160,6 +161,7 @@ went_explained before old t lines after new (further earlier line mid _ world _ 
         left_none = λ u seen. nothing_after (length earlier + 1) line.event mid after world new (Ok line.reply) handled earlier o.state u refl o.told o.stands seen;
         shows = shown (length earlier + 1) line.event mid after world new (Ok line.reply) handled;
         shows_by = shown_by (length earlier + 1) line.event mid after world new (Ok line.reply) earlier o.state refl o.told o.stands handled;
+        tells_by = tells_by (length earlier + 1) line.event mid after world new line.reply handled earlier o.state refl o.told o.stands;
         left = λ u seen.
             let f = stands_after (length earlier + 1) line.event mid after world new (Ok line.reply) handled earlier o.state refl o.told o.stands in
             subst (λ x. LeftIsRight x line.reply) (same_some f.after u (sym f.told ∙ seen)) f.left;

@@ -42,6 +42,7 @@ use Rattle.world_core.specs.Settled.{SettledLeaves, AnswersSettled, NoLockHeld, 
 use Rattle.world_core.specs.Sound.{IsSoundFor}
 use Rattle.world_core.specs.Spared.{StepSpendsNone, unpassed}
 use Rattle.world_core.specs.Stands.{LeftIsRight}
+use Rattle.world_core.specs.Tells.{Tells, TellsBy}
 use Rattle.world_core.specs.UnsentPages.{LeavesUnsent}
 use Rattle.world_core.specs.Writers.{stage_of}
 use Rattle.world_core.specs.Span.{Span, span_of}
@@ -79,8 +80,8 @@ IsKeptLine entries before line = IsKeptReply entries (standing before (session_o
 -- absent, or no leaf; the calls of a checkpoint are few up to it, and that of a tree names its new pieces at its end; a settling
 -- leaves nothing and comes to its end so;
 -- a commit that it answers as committed is among what was committed, and landed by its own session since it began, and of one that it answers as not committed
--- nothing is among it; the two numbers of a
--- report count what is left then; and a read, a scan and a look-up show what their own calls served, by what the lines say of the client
+-- nothing is among it; the two numbers of a report count what is left then; a read, a scan and a look-up show what their own calls served, by what the lines say
+-- of the client; and what its reply says of the end of an operation is of the one that they say
 pub record IsExplained (lines : List Line) (line : Line) (span : Span) (handled : Handled (length lines + 1) line.event span (Ok line.reply)) : Type 0 where
   pub explains : EachStep StepExplains (length lines + 1) line.event span (Ok line.reply) handled
   pub calm : EachStep StepIsCalm (length lines + 1) line.event span (Ok line.reply) handled → (t u : CloudState)
@@ -100,6 +101,7 @@ pub record IsExplained (lines : List Line) (line : Line) (span : Span) (handled 
   pub left : (u : CloudState) → span.after.state ≡ Some u → LeftIsRight u line.reply
   pub shows : EachStep StepShows (length lines + 1) line.event span (Ok line.reply) handled
   pub shows_by : EachStep (StepShowsBy lines) (length lines + 1) line.event span (Ok line.reply) handled
+  pub tells_by : TellsBy lines (length lines + 1) line.event line.reply span
 
 -- and so does each line
 abbrev pub AreExplained : (before : Seen) (old : World) (lines : List Line) (after : Seen) (new : World) → WentOn before old lines after new → Type 0
@@ -193,13 +195,20 @@ AreCaused before old lines after new start = Unit {0}
 AreCaused before old _ after new (further lines line mid _ world _ went handled) =
     AreCaused before old lines mid world went × LineHasCauses (length lines + 1) line.event (span_of mid after world new) (Ok line.reply) handled
 
+-- what the reply of each of these lines says is so
+abbrev pub AreTold : (before : Seen) (old : World) (lines : List Line) (after : Seen) (new : World) → WentOn before old lines after new → Type 0
+AreTold before old lines after new start = Unit {0}
+AreTold before old _ after new (further lines line mid _ world _ went handled) =
+    AreTold before old lines mid world went × Tells (length lines + 1) line.event line.reply (span_of mid after world new)
+
 -- no two of the rows that were added to the trace of a cloud that tells its state open one transaction
 abbrev pub OpensNoneTwice : Seen → Seen → Type 0
 OpensNoneTwice before after = (t : CloudState) → before.state ≡ Some t → AddsNoneTwice t after
 
 -- these lines were handled from a new world on; over a cloud that was empty and told its state each of them explains itself, reports come, and a writer
 -- leaves few messages; over one that earlier runs left each settling among them explains itself; and over any one each row that they added is of a kind
--- that its session's standing by them allows, each step that they made has its cause, and where they open no client twice no transaction was opened twice
+-- that its session's standing by them allows, each step that they made has its cause, what each reply says is so, and where they open no client twice no
+-- transaction was opened twice
 pub record AreAnswered (blind : Bool) (lines : List Line) (before after : Seen) : Type 0 where
   pub first : World
   pub fresh : IsNew blind first
@@ -213,6 +222,7 @@ pub record AreAnswered (blind : Bool) (lines : List Line) (before after : Seen) 
   pub kinds : (t : CloudState) → before.state ≡ Some t → WorldAdds lines t last after
   pub once : OpenEachOnce (events_of lines) → OpensNoneTwice before after
   pub caused : AreCaused before first lines after last went
+  pub told : AreTold before first lines after last went
 
 -- behind these lines this event was handled, and has no reply, by this fault; the session of its operation is broken off; each step that it made has
 -- its cause; and what it added to any cloud is of its kind too, whatever its reply would have been, and where it opens no client of theirs no

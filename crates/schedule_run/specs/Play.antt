@@ -18,7 +18,7 @@ use Rattle.world_core.specs.Quota.{SpendsQuota}
 use Rattle.world_core.specs.Stands.{WorldStands, StandsOn, Grows}
 use Rattle.world_core.specs.Span.{span_of}
 use Rattle.schedule_run.specs.InPlay.{Play}
-use Rattle.schedule_run.specs.Answered.{IsNew, AskNoReport, WentOn, AreSettled, IsOfRuns, LeavesOne, IsUnanswered, events_of, OpensNoneTwice, ReportsAreRight, KeepsTheTheorem, AreExplained, AreMetered, AreCaused, ReportsCome}
+use Rattle.schedule_run.specs.Answered.{IsNew, AskNoReport, WentOn, AreSettled, IsOfRuns, LeavesOne, IsUnanswered, events_of, OpensNoneTwice, ReportsAreRight, KeepsTheTheorem, AreExplained, AreMetered, AreCaused, AreTold, ReportsCome}
 
 -- a new world that has handled nothing; blind where it looks at no put
 pub record IsFresh (blind : Bool) (play : Play) : Type 0 where
@@ -66,7 +66,7 @@ RunsWhole event (Err fault) before after old new = StopsRun event before after o
 
 -- ---- lines from a new world on
 
--- these lines were handled from a new world on, and each step that they made has its cause; over any cloud that tells its state each row that they
+-- these lines were handled from a new world on, each step that they made has its cause, and what each reply says is so; over any cloud that tells its state each row that they
 -- added is of a kind that its session's standing by them allows, and where they open no client twice no transaction was opened twice; over one that
 -- earlier runs left each settling among them explains itself and another one is left; and over one that was empty all stands for them, they keep the
 -- theorem, each explains itself, reports come, and a writer leaves few messages; a blind one is asked for none
@@ -79,6 +79,7 @@ pub record Played (blind : Bool) (lines : List Line) (start now : Seen) (play : 
   pub kinds : (t : CloudState) → start.state ≡ Some t → WorldAdds lines t play.world now
   pub once : OpenEachOnce (events_of lines) → OpensNoneTwice start now
   pub caused : AreCaused start first lines now play.world went
+  pub told : AreTold start first lines now play.world went
   pub settled : (t : CloudState) → start.state ≡ Some t → IsOfRuns t → AreSettled start first lines now play.world went
   pub left : LeavesOne start now
   pub stands : (t : CloudState) → start.state ≡ Some t → IsEmptyCloud t

@@ -28,8 +28,8 @@ returns-clause-steps g c =
       did = record { answer = answer; made = made; took = took };
       memory = c.absorb-turn.ensures.memory;
       ample = took_ample old _ answer _ took
-      (handed_ample old _ answer _ c.call-answer.ensures.left c.absorb-turn.ensures.refused)
-      (handed_spared old _ answer _ c.call-answer.ensures.left c.absorb-turn.ensures.spared);
+          (handed_ample old _ answer _ c.call-answer.ensures.left c.absorb-turn.ensures.refused)
+          (handed_spared old _ answer _ c.call-answer.ensures.left c.absorb-turn.ensures.spared);
       means = λ client aim former h went.
           let known = came_known client aim former h old went in
           record {

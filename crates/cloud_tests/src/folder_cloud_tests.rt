@@ -6,8 +6,15 @@ use std::rt::Files;
 
 /// A clock that goes on by one tick at each reading, from a start.
 #[derive(Drop)]
-struct Steady {
+pub(crate) struct Steady {
     last: u64,
+}
+
+impl Steady {
+    /// A clock that begins behind a tick.
+    pub fn after(last: u64) -> Steady {
+        Steady { last }
+    }
 }
 
 impl Ticks for Steady {
@@ -31,9 +38,7 @@ fn plays<R: Files<File = File> + AllocGlobal>(
     leases: &mut Leases,
     opening: Opening<'_>,
 ) -> bool {
-    let clock = Steady {
-        last: opening.start,
-    };
+    let clock = Steady::after(opening.start);
     match FolderCloud::open(rt, opening.dir, clock) {
         Ok(mut cloud) => play(rt, &mut cloud, leases, opening.script),
         Err(_) => false,
@@ -41,7 +46,11 @@ fn plays<R: Files<File = File> + AllocGlobal>(
 }
 
 /// Whether a cloud answers as is wanted where an empty folder is opened after tick 10.
-fn plays_anew<R: Files<File = File> + AllocGlobal>(rt: &R, dir: &str, script: &[Step<'_>]) -> bool {
+pub(crate) fn plays_anew<R: Files<File = File> + AllocGlobal>(
+    rt: &R,
+    dir: &str,
+    script: &[Step<'_>],
+) -> bool {
     let _old = fs::remove_dir_all(rt, dir);
     let mut leases = Leases::none();
     let opening = Opening {
@@ -78,7 +87,7 @@ fn keeps_beside<R: Files<File = File> + AllocGlobal>(rt: &R) -> bool {
         start: 20,
         script: OBJECTS_AGAIN,
     };
-    match FolderCloud::open(rt, dir, Steady { last: 10 }) {
+    match FolderCloud::open(rt, dir, Steady::after(10)) {
         Ok(mut cloud) => {
             play(rt, &mut cloud, &mut leases, OBJECTS) && plays(rt, &mut leases, again)
         }
@@ -211,12 +220,15 @@ const NOTES: &[Step<'static>] = &[
         "notes-test/queues/updates-010000000000000000/last",
         b"\xff\xff\xff\xff\xff\xff\xff\xff",
     ),
-    Step::Sends(b"e", 4),
+    // The number of the one that is deleted is noted anew.
+    Step::Sends(b"gone", 4),
+    Step::Deletes(4),
+    Step::Sends(b"e", 5),
     Step::Writes("notes-test/queues/updates-010000000000000000/last", b""),
-    Step::Sends(b"f", 5),
+    Step::Sends(b"f", 6),
     Step::Receives(
         256,
-        &[(1, b"a"), (2, b"c"), (3, b"d"), (4, b"e"), (5, b"f")],
+        &[(1, b"a"), (2, b"c"), (3, b"d"), (5, b"e"), (6, b"f")],
     ),
 ];
 
@@ -422,6 +434,6 @@ fn reads_no_file_that_is_too_large(rt: HostRuntime) {
 
 #[test]
 fn opens_no_folder_at_an_empty_path(rt: HostRuntime) {
-    let opened = FolderCloud::open(&rt, "", Steady { last: 10 });
+    let opened = FolderCloud::open(&rt, "", Steady::after(10));
     assert!(rt; opened.is_err());
 }

@@ -3,6 +3,8 @@ use db_base::names::{Lock, ObjName, QueueName};
 use folder_names::fault::NameFault;
 use folder_names::files::{file_of, folder_of, lock_of};
 use folder_names::objects::{object_of, page_of};
+use folder_names::parts::{Part, part_of, path_of};
+use folder_names::queues::queue_of;
 use std::alloc::Global;
 use std::process::Abort;
 
@@ -77,11 +79,82 @@ fn pages_of_a_tree_are_told_by_their_files(rt: HostRuntime) {
     }
 }
 
+/// Whether this queue has this folder, and the folder this queue.
 fn is_folder(alloc: Global, queue: QueueName, folder: &str) -> bool {
-    match folder_of(alloc, queue) {
+    let named = match folder_of(alloc, queue) {
         Ok(text) => text.as_str() == folder,
         Err(_) => false,
+    };
+    named && queue_of(alloc, folder.as_bytes()) == Ok(queue)
+}
+
+/// Whether this part has this path, and the path this part.
+fn is_path(alloc: Global, part: Part, path: &str) -> bool {
+    let named = match path_of(alloc, part) {
+        Ok(text) => text.as_str() == path,
+        Err(_) => false,
+    };
+    named && part_of(alloc, path.as_bytes()) == Ok(part)
+}
+
+fn have_paths(alloc: Global, ids: &Ids) -> bool {
+    let (client, tree, page) = *ids;
+    is_path(alloc, Part::Objects, "objects")
+        && is_path(alloc, Part::Queues, "queues")
+        && is_path(
+            alloc,
+            Part::Queue(QueueName::Atomic(client)),
+            "queues/atomic-01",
+        )
+        && is_path(
+            alloc,
+            Part::Queue(QueueName::TreePu(tree)),
+            "queues/updates-020000000000000000",
+        )
+        && is_path(
+            alloc,
+            Part::Queue(QueueName::PagePu(tree, page)),
+            "queues/updates-020000000000000003",
+        )
+}
+
+#[test]
+fn parts_have_paths_and_paths_parts(rt: HostRuntime) {
+    match ids(1, 2, 3) {
+        Some(ids) => assert!(rt; have_paths(rt.alloc(), &ids)),
+        None => rt.panic("no ids"),
     }
+}
+
+const NO_PARTS: [&str; 13] = [
+    "",
+    "object",
+    "objects/",
+    "objects/head-01",
+    "locks",
+    "in-use",
+    "queues/",
+    "queues/atomic-",
+    "queues/atomic-41",
+    "queues/atomic-0A",
+    "queues/updates-020000000000000003/last",
+    "queues/updates-110000000000000003",
+    "../objects",
+];
+
+/// Whether none of these is the path of a part.
+fn are_no_parts(alloc: Global, paths: &[&str]) -> bool {
+    for path in paths {
+        if part_of(alloc, path.as_bytes()) != Err(NameFault::NotOurs) {
+            return false;
+        }
+    }
+    true
+}
+
+#[test]
+fn other_paths_are_no_parts(rt: HostRuntime) {
+    assert!(rt; are_no_parts(rt.alloc(), &NO_PARTS));
 }
 
 fn is_lock(alloc: Global, lock: Lock, file: &str) -> bool {

@@ -12,6 +12,8 @@ mod folder_cloud_tests;
 #[cfg(test)]
 mod folder_names_tests;
 #[cfg(test)]
+mod folder_opening_tests;
+#[cfg(test)]
 mod folder_script;
 #[cfg(test)]
 mod memory_cloud_tests;

@@ -53,6 +53,8 @@ refusals() {
     holds 'words in no form' 2 text '' gen 07 1 </dev/null
     holds 'a load of what is no dump' 1 text 'bad line 1' load no-store <<<'tree 0 1'
     holds 'a folder without a name' 8 text '' settle '' </dev/null
+    holds 'a settling of a folder that is not there' 8 text '' settle no-store </dev/null
+    holds 'a dump of a folder that is not there' 8 text '' dump no-store </dev/null
 }
 
 # A commit of one client, one of another, and what each sees of it.

@@ -79,22 +79,38 @@ fn pages_of_a_tree_are_told_by_their_files(rt: HostRuntime) {
     }
 }
 
+/// Whether a folder is told to be that of this queue.
+fn tells_queue(alloc: Global, folder: &str, queue: &QueueName) -> bool {
+    match queue_of(alloc, folder.as_bytes()) {
+        Ok(found) => found == *queue,
+        Err(_) => false,
+    }
+}
+
 /// Whether this queue has this folder, and the folder this queue.
 fn is_folder(alloc: Global, queue: QueueName, folder: &str) -> bool {
-    let named = match folder_of(alloc, queue) {
-        Ok(text) => text.as_str() == folder,
+    let is_told = tells_queue(alloc, folder, &queue);
+    match folder_of(alloc, queue) {
+        Ok(text) => is_told && text.as_str() == folder,
         Err(_) => false,
-    };
-    named && queue_of(alloc, folder.as_bytes()) == Ok(queue)
+    }
+}
+
+/// Whether a path is told to be that of this part.
+fn tells_part(alloc: Global, path: &str, part: &Part) -> bool {
+    match part_of(alloc, path.as_bytes()) {
+        Ok(found) => found == *part,
+        Err(_) => false,
+    }
 }
 
 /// Whether this part has this path, and the path this part.
 fn is_path(alloc: Global, part: Part, path: &str) -> bool {
-    let named = match path_of(alloc, part) {
-        Ok(text) => text.as_str() == path,
+    let is_told = tells_part(alloc, path, &part);
+    match path_of(alloc, part) {
+        Ok(text) => is_told && text.as_str() == path,
         Err(_) => false,
-    };
-    named && part_of(alloc, path.as_bytes()) == Ok(part)
+    }
 }
 
 fn have_paths(alloc: Global, ids: &Ids) -> bool {
